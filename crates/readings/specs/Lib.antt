@@ -1,0 +1,3 @@
+pub mod Table
+pub mod Read
+pub mod Outcome

@@ -1,0 +1,6 @@
+pub mod Cuts
+pub mod Fields
+pub mod Numbers
+pub mod Words
+pub mod Cells
+pub mod Algorithms

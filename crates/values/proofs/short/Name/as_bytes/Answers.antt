@@ -1,0 +1,7 @@
+use mathlib.Core.Path.{sym}
+use borrow.Author.Needs.{needs}
+use Rattle.std.proofs.shelf.Lists.{take-all}
+use Rattle.values.proofs.short.Name.as_bytes.Needs as need
+
+pub returns-then-self-gt24 : need.returns-then-self-gt24
+returns-then-self-gt24 c = record { value = sym (take-all (c .args .self .now .len) (c .args .self .now .bytes) (search needs)); bound = search needs }

@@ -1,0 +1,4 @@
+pub mod Options
+pub mod Short
+pub mod Sets
+pub mod Values

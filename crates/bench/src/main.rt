@@ -1,6 +1,8 @@
 // Times the check of a policy file: `bench FILE ROUNDS` prints the nanoseconds of all rounds and the file's length.
 // Without arguments it does nothing.
 
+#![tactic(auto)]
+
 use policy::Room;
 use std::time::Instant;
 use std::{env, fs};

@@ -1,5 +1,7 @@
 // Combining the children of a set: the decisions, the eight algorithms and the one fold over children.
 
+#![tactic(auto)]
+
 pub mod algorithm;
 pub mod combine;
 pub mod decision;

@@ -2,6 +2,8 @@
 //
 // A case on standard input is a line with the lengths of a policy file and of a readings file, then the bytes of both, then byte 10.
 
+#![tactic(auto)]
+
 mod cases;
 mod describe;
 

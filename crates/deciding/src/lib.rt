@@ -1,5 +1,7 @@
 // Deciding: a policy's answer, worked line by line from the top.
 
+#![tactic(auto)]
+
 mod children;
 mod duties;
 pub mod evaluator;

@@ -1,5 +1,7 @@
 // Tests of the operators, of combining and of whole answers.
 
+#![tactic(auto)]
+
 #[cfg(test)]
 mod answers;
 #[cfg(test)]

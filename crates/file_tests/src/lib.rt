@@ -1,5 +1,7 @@
 // Tests of the check of a policy file and a readings file, and of writing a policy back.
 
+#![tactic(auto)]
+
 #[cfg(test)]
 mod built;
 #[cfg(test)]

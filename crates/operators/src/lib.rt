@@ -1,5 +1,7 @@
 // The operators of expressions, on values.
 
+#![tactic(auto)]
+
 pub mod arithmetic;
 pub mod comparing;
 pub mod logic;

@@ -1,5 +1,7 @@
 // The policy file: its lines, and the check that they form one tree.
 
+#![tactic(auto)]
+
 pub mod accepted;
 mod body;
 mod check;

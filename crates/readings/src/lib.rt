@@ -1,5 +1,7 @@
 // The readings file: a line of names, and rows with a value for each name.
 
+#![tactic(auto)]
+
 mod cells;
 mod check;
 mod names;

@@ -1,5 +1,5 @@
 -- A cause with its place.
-use Rattle.std.specs.Prelude.{ℕ, List, [], ◌++◌, Ok, Err, codes, decimal, Result}
+use Rattle.std.specs.Prelude.{ℕ, List, ◌++◌, Ok, Err, codes, decimal, Result}
 use Rattle.refusals.specs.declared.cause.Cause.{Cause}
 use Rattle.refusals.specs.declared.place.LineFault.{LineFault}
 use Rattle.refusals.specs.declared.place.Rejection.{Rejection}

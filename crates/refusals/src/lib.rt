@@ -1,5 +1,7 @@
 // Why a file or a call is refused, and at which place of a file.
 
+#![tactic(auto)]
+
 pub mod cause;
 pub mod limit;
 pub mod place;

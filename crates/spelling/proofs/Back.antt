@@ -1,13 +1,13 @@
 -- What was read is spelled in one way: each reader's value gives back the bytes.
-use Rattle.std.proofs.Common.{◌≡◌, ℕ, zero, suc, ◌+◌, ◌-◌, ◌*◌, ◌<◌, ◌≤◌, Bool, true, false, cond, ◌&&◌, eqb, ltb, leb, List, [], ◌∷◌, ◌++◌, length, get_or, take, replicate, ℤ, pos, negsuc, neg_ℤ, Some, None, codes, decimal, Option, sym, refl, ap, ◌∙◌, subst, ⊎_elim, arith, rules}
-use Rattle.std.proofs.lemmas.Fmt.{decimal-digits_value, decimal_digit}
+use Rattle.std.proofs.Common.{◌≡◌, ℕ, zero, suc, ◌+◌, ◌-◌, ◌*◌, ◌≤◌, Bool, true, false, cond, eqb, ltb, leb, List, [], ◌∷◌, ◌++◌, length, ℤ, pos, negsuc, neg_ℤ, Some, None, decimal, Option, sym, refl, ap, ◌∙◌, subst, ⊎_elim, arith, rules}
+use Rattle.std.proofs.lemmas.Fmt.{decimal-digits_value}
 use Rattle.std.proofs.lemmas.List.{take_at}
 use Rattle.std.proofs.lemmas.Str.Parse.{IsNumeralModel, numerals_by_fold}
 use Rattle.std.proofs.lemmas.Bool.{eqb-true, eqb-false}
 use Rattle.std.proofs.lemmas.Bool.Decides.{nat_tests}
 use Rattle.std.specs.Fmt.{signed_decimal}
 use Rattle.std.specs.Str.{all_ascii_digits, bytes_eq}
-use Rattle.values.specs.Short.{name_bytes, name_for, text_bytes, text_for, padded}
+use Rattle.values.specs.Short.{name_bytes, name_for, text_bytes, text_for}
 use Rattle.values.specs.declared.short.Name.{Name}
 use Rattle.values.specs.declared.short.Text.{Text}
 use Rattle.spelling.specs.Algorithms.{algorithm_named, strategy_named, combining_of, algorithm_word, strategy_word, combining_word}
@@ -19,7 +19,7 @@ use Rattle.spelling.specs.declared.algorithm.Algorithm.TheVariants as a
 use Rattle.spelling.specs.declared.algorithm.Combining.{Combining}
 use Rattle.spelling.specs.declared.algorithm.Strategy.{Strategy}
 use Rattle.spelling.specs.declared.algorithm.Strategy.TheVariants as s
-use Rattle.spelling.proofs.Cuts.{parts_none, parts-some, some-part}
+use Rattle.spelling.proofs.Cuts.{parts-some, some-part}
 use Rattle.spelling.proofs.Inversions.{bind-some, each-some, past, held, some_same, either, same}
 
 abbrev pub read_on : ℕ → List ℕ → ℕ

@@ -1,5 +1,7 @@
 // How the fields of both files are spelled: each reader takes any bytes and answers what they spell, if anything.
 
+#![tactic(auto)]
+
 pub mod algorithm;
 pub mod cell;
 pub mod cut;

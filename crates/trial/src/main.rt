@@ -1,5 +1,7 @@
 // The trial program: checks `policy.txt` and `readings.txt` in its folder and reports what it found.
 
+#![tactic(auto)]
+
 use pair::check_pair;
 use policy::Room;
 use readings::TableRoom;

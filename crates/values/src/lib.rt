@@ -1,5 +1,7 @@
 // The values that readings and expressions take.
 
+#![tactic(auto)]
+
 pub mod number_set;
 pub mod short;
 pub mod text_set;

@@ -1,5 +1,7 @@
 // Writing an accepted policy back: exactly the bytes that were checked.
 
+#![tactic(auto)]
+
 mod put;
 mod row;
 mod word;

@@ -4,17 +4,17 @@ use Rattle.spelling.specs.Numbers.{number_of}
 use Rattle.spelling.proofs.Cells.{gathered-cut}
 use Rattle.spelling.proofs.cell.numbers.Goals as goal
 
-pub returns-in-err-number : goal.returns-in-err-number
-returns-in-err-number c = rw (gathered-cut number_of number numbers c.args.s.now) (search rules)
+pub returns-in_err-number-in-None : goal.returns-in_err-number-in-None
+returns-in_err-number-in-None c = rw (gathered-cut number_of number numbers c.args.s.now) (search rules)
 
-pub returns-in-err-number-2 : goal.returns-in-err-number-2
-returns-in-err-number-2 c = rw (gathered-cut number_of number numbers c.args.s.now) (search rules)
+pub returns-in_err-number-in-Some : goal.returns-in_err-number-in-Some
+returns-in_err-number-in-Some c = rw (gathered-cut number_of number numbers c.args.s.now) (search rules)
 
-pub returns-in-err-more-numbers : goal.returns-in-err-more-numbers
-returns-in-err-more-numbers c = rw (gathered-cut number_of number numbers c.args.s.now) (search rules)
+pub returns-in_err-more_numbers-in-Some : goal.returns-in_err-more_numbers-in-Some
+returns-in_err-more_numbers-in-Some c = rw (gathered-cut number_of number numbers c.args.s.now) (search rules)
 
-pub returns-in-ok-number : goal.returns-in-ok-number
-returns-in-ok-number c = rw (gathered-cut number_of number numbers c.args.s.now) (search rules)
+pub returns-in_ok-number-in-None : goal.returns-in_ok-number-in-None
+returns-in_ok-number-in-None c = rw (gathered-cut number_of number numbers c.args.s.now) (search rules)
 
-pub returns-in-ok-more-numbers : goal.returns-in-ok-more-numbers
-returns-in-ok-more-numbers c = rw (gathered-cut number_of number numbers c.args.s.now) (search rules)
+pub returns-in_ok-more_numbers-in-Some : goal.returns-in_ok-more_numbers-in-Some
+returns-in_ok-more_numbers-in-Some c = rw (gathered-cut number_of number numbers c.args.s.now) (search rules)

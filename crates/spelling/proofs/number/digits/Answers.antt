@@ -5,8 +5,8 @@ use Rattle.spelling.specs.Numbers.{digits_after}
 use Rattle.spelling.proofs.Digits.{over-limit}
 use Rattle.spelling.proofs.number.digits.Goals as goal
 
-pub returns-then-not-is-digit : goal.returns-then-not-is-digit
-returns-then-not-is-digit c = let e = at_drop_more (digits_after c.loop-b.n) c.args.s.now c.loop-b.b-index 0 (search rules) in grind (arith, nat_tests)
+pub returns-then-not-is_digit : goal.returns-then-not-is_digit
+returns-then-not-is_digit c = let e = at_drop_more (digits_after c.loop-b.n) c.args.s.now c.loop-b.b-index 0 (search rules) in grind (arith, nat_tests)
 
 pub returns-then-n-limit : goal.returns-then-n-limit
 returns-then-n-limit c = let e = at_drop_more (digits_after c.loop-b.n) c.args.s.now c.loop-b.b-index 0 (search rules) in

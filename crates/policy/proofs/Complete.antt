@@ -1,7 +1,6 @@
 -- Every tree of lines that can be spelled has an accepted file.
-use Rattle.std.proofs.Common.{◌≡◌, ℕ, zero, suc, ◌+◌, ◌-◌, ◌<◌, ◌≤◌, Bool, true, false, cond, ◌&&◌, eqb, ltb, leb, List, [], ◌∷◌, ◌++◌, length, get_or, take, drop, set, replicate, ℤ, pos, Some, None, Ok, Err, codes, decimal, Option, Result, sym, refl, ap, ◌∙◌, subst, ⊎_elim, append_assoc, arith, length-append, length-drop, length-set}
+use Rattle.std.proofs.Common.{◌≡◌, ℕ, zero, suc, ◌+◌, ◌-◌, ◌<◌, ◌≤◌, Bool, true, false, cond, ◌&&◌, eqb, ltb, leb, List, [], ◌∷◌, ◌++◌, length, get_or, take, drop, set, replicate, ℤ, pos, Some, None, Ok, Err, codes, decimal, Option, sym, refl, ap, ◌∙◌, subst, append_assoc, arith, length-append, length-drop, length-set}
 use Rattle.std.proofs.lemmas.List.{append-nil, get_or_append_left, get_or_at, get_or-take, get_or-drop, length-take-le, length_push}
-use Rattle.std.proofs.lemmas.Bool.{cases_eq, cases_Bool}
 use Rattle.std.proofs.lemmas.Bool.Decides.{nat_tests}
 use Rattle.std.specs.Fmt.{signed_decimal}
 use Rattle.std.specs.Str.{bytes_eq}
@@ -9,13 +8,11 @@ use Rattle.values.specs.Options.{bind}
 use Rattle.values.specs.Short.{name_bytes, text_bytes, name_for, text_for}
 use Rattle.refusals.specs.Results.{bind_r, or_refuse}
 use Rattle.refusals.specs.Places.{at_field, at_line}
-use Rattle.refusals.specs.declared.cause.Cause.{Cause}
 use Rattle.refusals.specs.declared.cause.Cause.TheVariants as why
-use Rattle.refusals.specs.declared.place.LineFault.{LineFault}
 use Rattle.refusals.specs.declared.place.Rejection.{Rejection}
-use Rattle.spelling.specs.Algorithms.{combining_of, combining_word, algorithm_word, strategy_word}
-use Rattle.spelling.specs.Cuts.{Six, cut_of, parts, six_of}
-use Rattle.spelling.specs.Numbers.{number_of, line_number_of, action_of, to_fifteen}
+use Rattle.spelling.specs.Algorithms.{combining_of, combining_word}
+use Rattle.spelling.specs.Cuts.{Six, parts, six_of}
+use Rattle.spelling.specs.Numbers.{number_of, action_of, to_fifteen}
 use Rattle.spelling.specs.Words.{is_word, is_text, name_of, text_of}
 use Rattle.spelling.specs.declared.algorithm.Algorithm.{Algorithm}
 use Rattle.spelling.specs.declared.algorithm.Algorithm.TheVariants as a
@@ -35,9 +32,9 @@ use Rattle.policy.specs.declared.line.Effect.TheVariants.{Permit, Deny}
 use Rattle.policy.specs.declared.line.Line.{Line}
 use Rattle.policy.specs.declared.line.Line.TheVariants as l
 use Rattle.policy.specs.Lines.{family_of, same_family, line_at, Reference, names, may_name, references}
-use Rattle.policy.specs.Check.{Marks, no_marks, marking, above, refer_of, may_refer_of, some, unused_of, line_of, step_of, unmarked_from, all_named, end_of, rejected, body_of, header_of, after_header, check_of}
+use Rattle.policy.specs.Check.{Marks, no_marks, marking, above, refer_of, may_refer_of, some, line_of, step_of, unmarked_from, all_named, end_of, rejected, body_of, after_header, check_of}
 use Rattle.policy.specs.Spelt.{truth_word, operator_word, force_word, effect_word, optional, fields_for, row, rows, spelt}
-use Rattle.policy.specs.Tree.{is_sound, all_sound, times, namings, Above, Once, Tree}
+use Rattle.policy.specs.Tree.{is_sound, all_sound, times, namings, Tree}
 use Rattle.policy.specs.WellSpelt.{WellSpelt, AllWellSpelt, Spells}
 use Rattle.policy.proofs.Laws.{namings-push}
 use Rattle.policy.proofs.Named.{mark, flagged}

@@ -1,14 +1,13 @@
 -- What holds of every accepted file.
-use Rattle.std.proofs.Common.{◌≡◌, ℕ, zero, suc, ◌+◌, ◌-◌, ◌<◌, ◌≤◌, Bool, true, false, cond, ◌&&◌, eqb, ltb, List, [], ◌∷◌, ◌++◌, length, get_or, take, drop, replicate, Some, None, Ok, Err, codes, Option, Result, sym, refl, ap, ◌∙◌, subst, ⊎_elim, append_assoc, arith, length-drop}
+use Rattle.std.proofs.Common.{◌≡◌, ℕ, zero, suc, ◌+◌, ◌-◌, ◌<◌, ◌≤◌, Bool, true, false, cond, ◌&&◌, eqb, ltb, List, [], ◌∷◌, ◌++◌, length, get_or, take, drop, replicate, Some, None, Ok, codes, Option, sym, refl, ap, ◌∙◌, subst, ⊎_elim, append_assoc, arith, length-drop}
 use Rattle.std.proofs.lemmas.List.{length_push, length-take-le, get_or-take, get_or-drop, append-nil, get_or_append_left, get_or_push}
 use Rattle.std.proofs.lemmas.Bool.{cases_eq, eqb-false}
 use Rattle.std.proofs.lemmas.Bool.Decides.{nat_tests}
 use Rattle.std.specs.Str.{bytes_eq}
-use Rattle.refusals.specs.Results.{bind_r, or_refuse}
-use Rattle.refusals.specs.Places.{at_field, at_line}
+use Rattle.refusals.specs.Results.{or_refuse}
+use Rattle.refusals.specs.Places.{at_line}
 use Rattle.refusals.specs.declared.cause.Cause.TheVariants as why
-use Rattle.refusals.specs.declared.place.Rejection.{Rejection}
-use Rattle.spelling.specs.Cuts.{Six, cut_of, parts, six_of}
+use Rattle.spelling.specs.Cuts.{cut_of, parts, six_of}
 use Rattle.spelling.proofs.Back.{cut_back, fields_back}
 use Rattle.spelling.proofs.Inversions.{bind-some, held, some_same, same}
 use Rattle.policy.specs.declared.line.Family.TheVariants as family
@@ -20,7 +19,7 @@ use Rattle.policy.specs.Spelt.{fields_for, row, rows, spelt}
 use Rattle.policy.specs.Tree.{is_sound, all_sound, times, namings, Tree}
 use Rattle.refusals.proofs.Inversions.{bind_ok, field_bind, ok_same, or_ok, passed, cleared, line_ok}
 use Rattle.policy.specs.WellSpelt.{WellSpelt, AllWellSpelt, Spells}
-use Rattle.policy.proofs.LineLaws.{ReadAs, line_reads}
+use Rattle.policy.proofs.LineLaws.{line_reads}
 use Rattle.policy.proofs.Named.{mark, Named}
 
 pub namings-push : (k : ℕ) (ls : List Line) (l : Line) → namings k (ls ++ l ∷ []) ≡ namings k ls + times k (references l)

@@ -1,10 +1,8 @@
 -- A line that was read: what it names is marked, and it is spelled in one way.
-use Rattle.std.proofs.Common.{◌≡◌, ℕ, ◌<◌, Bool, true, false, cond, ◌⊎◌, List, [], ◌∷◌, ◌++◌, length, Some, None, Ok, Err, codes, decimal, Option, Result, sym, refl, ap, ◌∙◌, subst, inl, inr, ⊎_elim, arith}
-use Rattle.std.specs.Fmt.{signed_decimal}
+use Rattle.std.proofs.Common.{◌≡◌, ℕ, ◌<◌, Bool, true, false, cond, ◌⊎◌, List, [], length, Some, None, Ok, Err, codes, Option, Result, sym, refl, ap, ◌∙◌, subst, inl, inr, ⊎_elim, arith}
 use Rattle.std.specs.Str.{bytes_eq}
 use Rattle.values.specs.Options.{or_else}
-use Rattle.refusals.specs.Results.{bind_r, or_refuse}
-use Rattle.refusals.specs.Places.{at_field}
+use Rattle.refusals.specs.Results.{or_refuse}
 use Rattle.refusals.specs.declared.cause.Cause.TheVariants as why
 use Rattle.refusals.specs.declared.place.LineFault.{LineFault}
 use Rattle.spelling.specs.Algorithms.{combining_of}
@@ -30,7 +28,7 @@ use Rattle.policy.specs.Check.{Marks, marking, refer_of, may_refer_of, unused_of
 use Rattle.policy.specs.Spelt.{truth_word, operator_word, force_word, effect_word, fields_for}
 use Rattle.refusals.proofs.Inversions.{bind_ok, field_bind, ok_same, or_ok, passed, field_ok}
 use Rattle.policy.specs.WellSpelt.{WellSpelt}
-use Rattle.policy.proofs.Named.{Named, none, both, Refers, refers, MayRefer, may_refer}
+use Rattle.policy.proofs.Named.{Named, none, both, refers, may_refer}
 
 -- the words of the kinds
 

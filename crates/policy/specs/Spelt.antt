@@ -1,5 +1,5 @@
 -- How a policy is spelled: each has one file.
-use Rattle.std.specs.Prelude.{◌≡◌, ℕ, Bool, true, false, List, [], ◌∷◌, ◌++◌, Some, None, codes, decimal, Option}
+use Rattle.std.specs.Prelude.{ℕ, Bool, true, false, List, [], ◌∷◌, ◌++◌, Some, None, codes, decimal, Option}
 use Rattle.std.specs.Fmt.{signed_decimal}
 use Rattle.values.specs.Short.{name_bytes, text_bytes}
 use Rattle.spelling.specs.Algorithms.{combining_word}

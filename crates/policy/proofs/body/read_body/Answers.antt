@@ -8,14 +8,14 @@ pub loop-rest-init : goal.loop-rest-init
 unfolding no_marks
 loop-rest-init c = (search rules, search rules, search rules, body_start (vec_items c.args.lines.now) no_marks c.args.body.now c.requires.0)
 
-pub returns-in-err-line : goal.returns-in-err-line
-returns-in-err-line c =
+pub returns-in_err-line : goal.returns-in_err-line
+returns-in_err-line c =
     let l = c.loop-rest in
-    let p = err_from_is_err_and c.from-residual.result c.from-residual.ensures.1 in
+    let p = err_from_is_err_and c.from_residual.result c.from_residual.ensures.1 in
     let n : c.len-next.result + 1 ≡ length (vec_items l.lines) + 1 = search rules in
     record {
       value = rw (p.1, p.2) (stops (vec_items l.lines) l.marks l.rest.now _ (sym c.loop-rest-test.ensures) l.invariant.3 (c.len-next.result + 1) n (omega arith)
-          _ c.as-slice.ensures.value c.next-line.result c.next-line.new.marks c.next-line.ensures c.in-err-line.field-0.0 c.in-err-line.ensures);
+          _ c.as_slice.ensures.value c.next_line.result c.next_line.new.marks c.next_line.ensures c.in_err-line.field-0.0 c.in_err-line.ensures);
       cap = l.invariant.1;
     }
 
@@ -27,6 +27,6 @@ loop-rest-preserved c =
       search rules,
       search rules,
       goes (vec_items l.lines) l.marks l.rest.now _ (sym c.loop-rest-test.ensures) l.invariant.3 (c.len-next.result + 1) n (omega arith)
-          _ c.as-slice.ensures.value c.next-line.result c.next-line.new.marks c.next-line.ensures (c.in-ok-line.line, c.in-ok-line.after) c.in-ok-line.ensures
-          _ c.push-reserved.ensures.items,
+          _ c.as_slice.ensures.value c.next_line.result c.next_line.new.marks c.next_line.ensures (c.in_ok-line.line, c.in_ok-line.after) c.in_ok-line.ensures
+          _ c.push_reserved.ensures.items,
     )

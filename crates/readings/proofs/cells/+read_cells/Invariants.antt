@@ -1,5 +1,5 @@
 use Rattle.std.proofs.Common.{length}
 use Rattle.readings.proofs.cells.+read_cells.Given as goal
 
-abbrev pub decreases-read-cells : goal.decreases-read-cells
-decreases-read-cells l = length l.rest.now
+abbrev pub decreases-read_cells : goal.decreases-read_cells
+decreases-read_cells l = length l.rest.now

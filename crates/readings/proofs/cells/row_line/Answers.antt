@@ -11,7 +11,7 @@ pub returns : goal.returns
 returns c =
     let full : eqb (length (parts 32 c.args.line.now)) c.args.width ≡ true = grind (arith, nat_tests) in
     record {
-      cap = c.read-cells.ensures.cap;
-      len = c.read-cells.ensures.len;
-      value = c.read-cells.ensures.value ∙ ap (after (map val_of (vec_items c.args.cells.now))) (chosen (eqb (length (parts 32 c.args.line.now)) c.args.width) (cells_from 1 (parts 32 c.args.line.now)) _ full);
+      cap = c.read_cells.ensures.cap;
+      len = c.read_cells.ensures.len;
+      value = c.read_cells.ensures.value ∙ ap (after (map val_of (vec_items c.args.cells.now))) (chosen (eqb (length (parts 32 c.args.line.now)) c.args.width) (cells_from 1 (parts 32 c.args.line.now)) _ full);
     }

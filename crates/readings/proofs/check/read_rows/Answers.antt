@@ -14,25 +14,25 @@ loop-rest-init c =
     let z : vec_len c.args.cells.now ≡ 0 = let e = ap length c.requires.empty in search rules in
     (omega arith, omega (arith, z), refl, full_none c.args.width (map val_of (vec_items c.args.cells.now)) (ap (map val_of) c.requires.empty), after-nil (rows_of 1 c.args.width (parts 10 c.args.body.now)))
 
-pub returns-in-default : goal.returns-in-default
-returns-in-default c =
+pub returns-in_default : goal.returns-in_default
+returns-in_default c =
     let l = c.loop-rest in
-    record { cap = l.invariant.2; value = no_end c.args.width l.rows (map val_of (vec_items l.cells)) l.rest.now _ l.invariant.4 (sym c.loop-rest-test.ensures) (sym c.in-default.ensures) }
+    record { cap = l.invariant.2; value = no_end c.args.width l.rows (map val_of (vec_items l.cells)) l.rest.now _ l.invariant.4 (sym c.loop-rest-test.ensures) (sym c.in_default.ensures) }
 
-pub row-line-requires : goal.row-line-requires
-row-line-requires c =
+pub row_line-requires : goal.row_line-requires
+row_line-requires c =
     let l = c.loop-rest in
     let e = line_room l.rest.now (c.in-Some.line.now, c.in-Some.after.now) (sym c.in-Some.ensures) in
     record { room = omega (arith, e, l.invariant.1, l.invariant.2, c.requires.room); few = c.requires.few }
 
-pub returns-in-err-at-line : goal.returns-in-err-at-line
-returns-in-err-at-line c =
+pub returns-in_err-at_line : goal.returns-in_err-at_line
+returns-in_err-at_line c =
     let l = c.loop-rest in
-    let p = err_from_is_err_and c.from-residual.result c.from-residual.ensures.1 in
+    let p = err_from_is_err_and c.from_residual.result c.from_residual.ensures.1 in
     record {
-      cap = c.row-line.ensures.cap ∙ l.invariant.2;
+      cap = c.row_line.ensures.cap ∙ l.invariant.2;
       value = rw (p.1, p.2) (stops c.args.width l.rows (map val_of (vec_items l.cells)) l.rest.now _ l.invariant.4 (c.in-Some.line.now, c.in-Some.after.now) (sym c.in-Some.ensures)
-          c.row-line.result (vec_items c.row-line.new.cells) c.row-line.ensures.value c.in-err-at-line.field-0.0 c.in-err-at-line.ensures);
+          c.row_line.result (vec_items c.row_line.new.cells) c.row_line.ensures.value c.in_err-at_line.field-0.0 c.in_err-at_line.ensures);
     }
 
 pub loop-rest-smaller : goal.loop-rest-smaller
@@ -44,8 +44,8 @@ loop-rest-preserved c =
     let e = line_room l.rest.now (c.in-Some.line.now, c.in-Some.after.now) (sym c.in-Some.ensures) in
     let s = cut_shorter 10 l.rest.now (c.in-Some.line.now, c.in-Some.after.now) (sym c.in-Some.ensures) in
     let g = goes c.args.width l.rows (map val_of (vec_items l.cells)) l.rest.now _ l.invariant.4 l.invariant.3 (c.in-Some.line.now, c.in-Some.after.now) (sym c.in-Some.ensures)
-    c.row-line.result (vec_items c.row-line.new.cells) c.row-line.ensures.value c.in-ok-at-line.field-0 c.in-ok-at-line.ensures in
-    (omega (arith, s, l.invariant.0), omega (arith, e, c.row-line.ensures.len, l.invariant.1), c.row-line.ensures.cap ∙ l.invariant.2, g.0, g.1)
+    c.row_line.result (vec_items c.row_line.new.cells) c.row_line.ensures.value c.in_ok-at_line.field-0 c.in_ok-at_line.ensures in
+    (omega (arith, s, l.invariant.0), omega (arith, e, c.row_line.ensures.len, l.invariant.1), c.row_line.ensures.cap ∙ l.invariant.2, g.0, g.1)
 
 pub returns : goal.returns
 returns c =

@@ -5,42 +5,42 @@ use Rattle.spelling.proofs.Cuts.{cut_shorter, parts_none}
 use Rattle.readings.proofs.Parts.{names-cut, one_less}
 use Rattle.readings.proofs.names.+read_names.Goals as goal
 
-pub returns-in-err-last : goal.returns-in-err-last
-returns-in-err-last t c = record {
+pub returns-in_err-last-in-None : goal.returns-in_err-last-in-None
+returns-in_err-last-in-None t c = record {
   cap = refl;
   len = omega arith;
   value = rw (names-cut c.args.field (map name_bytes (vec_items c.args.names.now)) c.args.rest.now) (search (rules, map_push));
 }
 
-pub returns-in-err-next : goal.returns-in-err-next
-returns-in-err-next t c = record {
+pub returns-in_err-next-in-Some : goal.returns-in_err-next-in-Some
+returns-in_err-next-in-Some t c = record {
   cap = refl;
   len = omega arith;
   value = rw (names-cut c.args.field (map name_bytes (vec_items c.args.names.now)) c.args.rest.now) (search (rules, map_push));
 }
 
-pub returns-in-ok-last : goal.returns-in-ok-last
-returns-in-ok-last t c = record {
-  cap = c.push-reserved.ensures.capacity;
-  len = let e = ap length (parts_none 32 c.args.rest.now (sym c.in-None.ensures)) in omega (arith, e, c.push-reserved.ensures.len);
+pub returns-in_ok-last-in-None : goal.returns-in_ok-last-in-None
+returns-in_ok-last-in-None t c = record {
+  cap = c.push_reserved.ensures.capacity;
+  len = let e = ap length (parts_none 32 c.args.rest.now (sym c.in-None.ensures)) in omega (arith, e, c.push_reserved.ensures.len);
   value = rw (names-cut c.args.field (map name_bytes (vec_items c.args.names.now)) c.args.rest.now) (search (rules, map_push));
 }
 
-pub returns-in-ok-next : goal.returns-in-ok-next
-returns-in-ok-next t c = record {
-  cap = c.read-names.ensures.cap ∙ c.push-reserved-in-Some.ensures.capacity;
-  len = let e = one_less c.args.rest.now (c.in-Some.first.now, c.in-Some.after.now) (sym c.in-Some.ensures) in omega (arith, e, c.push-reserved-in-Some.ensures.len, c.read-names.ensures.len);
+pub returns-in_ok-next-in-Some : goal.returns-in_ok-next-in-Some
+returns-in_ok-next-in-Some t c = record {
+  cap = c.read_names.ensures.cap ∙ c.push_reserved-in-Some.ensures.capacity;
+  len = let e = one_less c.args.rest.now (c.in-Some.first.now, c.in-Some.after.now) (sym c.in-Some.ensures) in omega (arith, e, c.push_reserved-in-Some.ensures.len, c.read_names.ensures.len);
   value = rw (names-cut c.args.field (map name_bytes (vec_items c.args.names.now)) c.args.rest.now) (search (rules, map_push));
 }
 
-pub push-reserved-requires-in-Some : goal.push-reserved-requires-in-Some
-push-reserved-requires-in-Some t c = let e = one_less c.args.rest.now (c.in-Some.first.now, c.in-Some.after.now) (sym c.in-Some.ensures) in omega (arith, e, c.requires.room)
+pub push_reserved-requires-in-Some : goal.push_reserved-requires-in-Some
+push_reserved-requires-in-Some t c = let e = one_less c.args.rest.now (c.in-Some.first.now, c.in-Some.after.now) (sym c.in-Some.ensures) in omega (arith, e, c.requires.room)
 
-pub read-names-requires : goal.read-names-requires
-read-names-requires t c =
+pub read_names-requires : goal.read_names-requires
+read_names-requires t c =
     let e = one_less c.args.rest.now (c.in-Some.first.now, c.in-Some.after.now) (sym c.in-Some.ensures) in
     let h = cut_shorter 32 c.args.rest.now (c.in-Some.first.now, c.in-Some.after.now) (sym c.in-Some.ensures) in
     let p = c.requires.room in
     let q = c.requires.few in
-    let n = c.push-reserved-in-Some.ensures in
+    let n = c.push_reserved-in-Some.ensures in
     (search rules, (omega (arith, e, p, n.len, n.capacity), omega (arith, e, q)))

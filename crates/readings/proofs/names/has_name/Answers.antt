@@ -8,12 +8,12 @@ use Rattle.readings.proofs.names.has_name.Goals as goal
 
 pub returns-then-is : goal.returns-then-is
 returns-then-is c =
-    let e = among-more c.args.s.now c.args.names.now c.loop-x.x-index _ c.as-bytes.result.now c.loop-x-test.true c.as-bytes.ensures.value in
+    let e = among-more c.args.s.now c.args.names.now c.loop-x.x-index _ c.as_bytes.result.now c.loop-x-test.true c.as_bytes.ensures.value in
     ap (λ t. t || among c.args.s.now (map name_bytes (drop (c.loop-x.x-index + 1) c.args.names.now))) c.if-is.ensures ∙ sym e ∙ c.loop-x.invariant
 
 pub loop-x-preserved : goal.loop-x-preserved
 loop-x-preserved c =
-    let e = among-more c.args.s.now c.args.names.now c.loop-x.x-index _ c.as-bytes.result.now c.loop-x-test.true c.as-bytes.ensures.value in
+    let e = among-more c.args.s.now c.args.names.now c.loop-x.x-index _ c.as_bytes.result.now c.loop-x-test.true c.as_bytes.ensures.value in
     ap (λ t. t || among c.args.s.now (map name_bytes (drop (c.loop-x.x-index + 1) c.args.names.now))) c.if-is.ensures ∙ sym e ∙ c.loop-x.invariant
 
 pub returns : goal.returns

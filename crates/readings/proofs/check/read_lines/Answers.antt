@@ -1,4 +1,4 @@
-use Rattle.std.proofs.Common.{◌≡◌, length, sym, refl, arith, rules}
+use Rattle.std.proofs.Common.{sym, refl, arith, rules}
 use Rattle.std.proofs.lemmas.List.{length-map}
 use Rattle.spelling.proofs.Cuts.{cut_shorter}
 use Rattle.readings.proofs.Rows.{table_cut}

@@ -1,4 +1,4 @@
 use Rattle.writing.proofs.word.+natural_word.Given as goal
 
-abbrev pub decreases-natural-word : goal.decreases-natural-word
-decreases-natural-word l = l.n
+abbrev pub decreases-natural_word : goal.decreases-natural_word
+decreases-natural_word l = l.n

@@ -1,4 +1,4 @@
-use Rattle.std.proofs.Common.{replicate, arith}
+use Rattle.std.proofs.Common.{replicate}
 use Rattle.writing.proofs.Sets.{front_shows}
 use Rattle.writing.proofs.word.spell.Goals as goal
 

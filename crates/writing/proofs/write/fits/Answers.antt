@@ -7,10 +7,10 @@ use Rattle.writing.proofs.Sets.{length-left}
 use Rattle.writing.proofs.write.fits.Goals as goal
 
 pub returns-then-size-room : goal.returns-then-size-room
-returns-then-size-room c = let e = length-left c.args.lines.now c.loop-line.line-index _ c.loop-line-test.true (seen_row c.row-of.result) c.row-of.ensures in grind (arith, nat_tests)
+returns-then-size-room c = let e = length-left c.args.lines.now c.loop-line.line-index _ c.loop-line-test.true (seen_row c.row_of.result) c.row_of.ensures in grind (arith, nat_tests)
 
 pub loop-line-preserved : goal.loop-line-preserved
-loop-line-preserved c = let e = length-left c.args.lines.now c.loop-line.line-index _ c.loop-line-test.true (seen_row c.row-of.result) c.row-of.ensures in (omega arith, omega arith)
+loop-line-preserved c = let e = length-left c.args.lines.now c.loop-line.line-index _ c.loop-line-test.true (seen_row c.row_of.result) c.row_of.ensures in (omega arith, omega arith)
 
 pub returns : goal.returns
 returns c = let e = at_drop_all (λ ls. length (rows ls)) c.args.lines.now c.loop-line.line-index c.loop-line-test.false in grind (arith, nat_tests)

@@ -7,13 +7,13 @@ use Rattle.writing.proofs.Sets.{length-left, row_put, row-length}
 use Rattle.writing.proofs.write.put_rows.Goals as goal
 
 pub put-at-requires : goal.put-at-requires
-put-at-requires c = let e = length-left c.args.lines.now c.loop-line.line-index _ c.loop-line-test.true (seen_row c.row-of.result) c.row-of.ensures in omega arith
+put-at-requires c = let e = length-left c.args.lines.now c.loop-line.line-index _ c.loop-line-test.true (seen_row c.row_of.result) c.row_of.ensures in omega arith
 
 pub loop-line-preserved : goal.loop-line-preserved
 loop-line-preserved c =
-    let e = length-left c.args.lines.now c.loop-line.line-index _ c.loop-line-test.true (seen_row c.row-of.result) c.row-of.ensures in (
-      omega (arith, c.put-at.ensures.next, row-length (seen_row c.row-of.result)),
-      row_put c.args.lines.now c.loop-line.line-index _ c.loop-line-test.true (seen_row c.row-of.result) c.row-of.ensures _ _ _ _ c.put-at.ensures ∙ c.loop-line.invariant.1,
+    let e = length-left c.args.lines.now c.loop-line.line-index _ c.loop-line-test.true (seen_row c.row_of.result) c.row_of.ensures in (
+      omega (arith, c.put-at.ensures.next, row-length (seen_row c.row_of.result)),
+      row_put c.args.lines.now c.loop-line.line-index _ c.loop-line-test.true (seen_row c.row_of.result) c.row_of.ensures _ _ _ _ c.put-at.ensures ∙ c.loop-line.invariant.1,
     )
 
 pub returns : goal.returns

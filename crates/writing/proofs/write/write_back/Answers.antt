@@ -1,4 +1,4 @@
-use Rattle.std.proofs.Common.{◌≡◌, ℕ, ◌<◌, ◌≤◌, List, length, Ok, Err, refl, subst, arith}
+use Rattle.std.proofs.Common.{◌<◌, ◌≤◌, List, length, Ok, Err, refl, subst, arith}
 use Rattle.std.proofs.lemmas.Bool.Decides.{nat_tests}
 use Rattle.refusals.specs.declared.cause.Cause.TheVariants.{TooSmall}
 use Rattle.policy.specs.Accepted.{lines_of}
@@ -24,7 +24,7 @@ returns c =
     let d = c.args.out.now in
     let read : List Line = c.lines-lines.result.now in
     let room : length (spelt read) ≤ length d = grind (arith, nat_tests) in
-    let after = c.put-rows.new.out in
-    let n = Ok c.put-rows.result in
-    let h : Written (spelt ls) d after n = subst (λ (xs : List Line). Written (spelt xs) d after n) c.lines-lines.ensures.value (front d after (spelt read) c.put-rows.result (both c.put-at.ensures c.put-rows.ensures) room) in
+    let after = c.put_rows.new.out in
+    let n = Ok c.put_rows.result in
+    let h : Written (spelt ls) d after n = subst (λ (xs : List Line). Written (spelt xs) d after n) c.lines-lines.ensures.value (front d after (spelt read) c.put_rows.result (both c.put-at.ensures c.put_rows.ensures) room) in
     record { lines = h; file = back ls d after n h }

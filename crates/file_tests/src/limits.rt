@@ -180,7 +180,7 @@ const CELLS: [Wide; 5] = [
 fn check_chains(rt: &impl Abort, heap: Global, cases: &[Chain]) -> Result<(), Fail> {
     for case in cases {
         let file = chain(heap, case.first, case.count, case.last)?;
-        check_refused(rt, heap, file.as_slice(), READINGS, case.refusal).note(case.last)?;
+        check_refused(rt, heap, case.last, file.as_slice(), READINGS, case.refusal)?;
     }
     Ok(())
 }
@@ -194,7 +194,14 @@ fn most_lines(runtime: HostRuntime) -> Result<(), Fail> {
         names: 1,
         rows: 1,
     };
-    check_accepted(&runtime, heap, file.as_slice(), READINGS, expected)?;
+    check_accepted(
+        &runtime,
+        heap,
+        "256 lines",
+        file.as_slice(),
+        READINGS,
+        expected,
+    )?;
     check_chains(&runtime, heap, &ENDINGS)
 }
 
@@ -212,10 +219,24 @@ fn most_names(runtime: HostRuntime) -> Result<(), Fail> {
         names: 64,
         rows: 1,
     };
-    check_accepted(&runtime, heap, POLICY, file.as_slice(), expected)?;
+    check_accepted(
+        &runtime,
+        heap,
+        "64 names",
+        POLICY,
+        file.as_slice(),
+        expected,
+    )?;
     for case in &NAMES {
         let line = names(heap, case.count, case.rest)?;
-        check_refused(&runtime, heap, POLICY, line.as_slice(), case.refusal).note(case.rest)?;
+        check_refused(
+            &runtime,
+            heap,
+            case.rest,
+            POLICY,
+            line.as_slice(),
+            case.refusal,
+        )?;
     }
     Ok(())
 }
@@ -225,7 +246,14 @@ fn cells_under_most_names(runtime: HostRuntime) -> Result<(), Fail> {
     let heap = runtime.alloc();
     for case in &CELLS {
         let file = wide_row(heap, case.count, case.rest)?;
-        check_refused(&runtime, heap, POLICY, file.as_slice(), case.refusal).note(case.rest)?;
+        check_refused(
+            &runtime,
+            heap,
+            case.rest,
+            POLICY,
+            file.as_slice(),
+            case.refusal,
+        )?;
     }
     Ok(())
 }

@@ -18,9 +18,23 @@ fn large_readings(runtime: HostRuntime) -> Result<(), Fail> {
         names: 1,
         rows: 16_381,
     };
-    check_accepted(&runtime, heap, POLICY, file.as_slice(), expected)?;
+    check_accepted(
+        &runtime,
+        heap,
+        "32,768 bytes",
+        POLICY,
+        file.as_slice(),
+        expected,
+    )?;
     file.push(b'x')?;
-    check_refused(&runtime, heap, POLICY, file.as_slice(), TOO_SMALL)
+    check_refused(
+        &runtime,
+        heap,
+        "32,769 bytes",
+        POLICY,
+        file.as_slice(),
+        TOO_SMALL,
+    )
 }
 
 // So may a policy file, and the size comes before what the file holds: 32,768 bytes are refused for their line 0, and one
@@ -32,24 +46,38 @@ fn large_policies(runtime: HostRuntime) -> Result<(), Fail> {
     check_refused(
         &runtime,
         heap,
+        "32,768 bytes",
         most.as_slice(),
         READINGS,
         Refusal(1, 1, 0, 0),
-    )
-    .note("32,768 bytes")?;
+    )?;
     let over = repeated(heap, b"", b"x", 32_769)?;
-    check_refused(&runtime, heap, over.as_slice(), READINGS, TOO_SMALL).note("32,769 bytes")?;
+    check_refused(
+        &runtime,
+        heap,
+        "32,769 bytes",
+        over.as_slice(),
+        READINGS,
+        TOO_SMALL,
+    )?;
     let lines = repeated(heap, b"kind a b c d e\n", b"true - - - - -\n", 2_183)?;
     check_refused(
         &runtime,
         heap,
+        "32,760 bytes",
         lines.as_slice(),
         READINGS,
         Refusal(7, 2, 257, 0),
-    )
-    .note("32,760 bytes")?;
+    )?;
     let more = repeated(heap, b"kind a b c d e\n", b"true - - - - -\n", 2_184)?;
-    check_refused(&runtime, heap, more.as_slice(), READINGS, TOO_SMALL).note("32,775 bytes")
+    check_refused(
+        &runtime,
+        heap,
+        "32,775 bytes",
+        more.as_slice(),
+        READINGS,
+        TOO_SMALL,
+    )
 }
 
 // The policy file comes first, its size before its faults; then the readings file likewise.
@@ -57,21 +85,45 @@ fn large_policies(runtime: HostRuntime) -> Result<(), Fail> {
 fn large_files_in_turn(runtime: HostRuntime) -> Result<(), Fail> {
     let heap = runtime.alloc();
     let over = repeated(heap, b"", b"x", 32_769)?;
-    check_refused(&runtime, heap, b"", over.as_slice(), Refusal(1, 1, 0, 0)).note("no line 0")?;
+    check_refused(
+        &runtime,
+        heap,
+        "no line 0",
+        b"",
+        over.as_slice(),
+        Refusal(1, 1, 0, 0),
+    )?;
     let no_lines = b"kind a b c d e\n";
     check_refused(
         &runtime,
         heap,
+        "line 0 alone",
         no_lines,
         over.as_slice(),
         Refusal(7, 2, 1, 0),
-    )
-    .note("line 0 alone")?;
-    check_refused(&runtime, heap, POLICY, over.as_slice(), TOO_SMALL).note(
-        "readings without a name",
     )?;
-    check_refused(&runtime, heap, over.as_slice(), b"", TOO_SMALL).note("both at fault")?;
-    check_refused(&runtime, heap, over.as_slice(), over.as_slice(), TOO_SMALL).note(
+    check_refused(
+        &runtime,
+        heap,
+        "readings without a name",
+        POLICY,
+        over.as_slice(),
+        TOO_SMALL,
+    )?;
+    check_refused(
+        &runtime,
+        heap,
+        "both at fault",
+        over.as_slice(),
+        b"",
+        TOO_SMALL,
+    )?;
+    check_refused(
+        &runtime,
+        heap,
         "both too large",
+        over.as_slice(),
+        over.as_slice(),
+        TOO_SMALL,
     )
 }

@@ -118,7 +118,7 @@ fn well_spelt_fields(runtime: HostRuntime) -> Result<(), Fail> {
     };
     for line in &LINES {
         let file = format!(in heap; "kind a b c d e\n{line}\npermit 1 - - - -\n")?;
-        check_accepted(&runtime, heap, file.as_bytes(), READINGS, expected).note(line)?;
+        check_accepted(&runtime, heap, line, file.as_bytes(), READINGS, expected)?;
     }
     Ok(())
 }
@@ -129,7 +129,7 @@ fn misspelt_fields(runtime: HostRuntime) -> Result<(), Fail> {
     let expected = Refusal(4, 1, 1, 2);
     for line in &LINES_MISSPELT {
         let file = format!(in heap; "kind a b c d e\n{line}\npermit 1 - - - -\n")?;
-        check_refused(&runtime, heap, file.as_bytes(), READINGS, expected).note(line)?;
+        check_refused(&runtime, heap, line, file.as_bytes(), READINGS, expected)?;
     }
     Ok(())
 }
@@ -144,7 +144,7 @@ fn well_spelt_cells(runtime: HostRuntime) -> Result<(), Fail> {
     };
     for cell in &CELLS {
         let file = format!(in heap; "valve flow rain\n- {cell} -\n")?;
-        check_accepted(&runtime, heap, POLICY, file.as_bytes(), expected).note(cell)?;
+        check_accepted(&runtime, heap, cell, POLICY, file.as_bytes(), expected)?;
     }
     Ok(())
 }
@@ -155,7 +155,7 @@ fn misspelt_cells(runtime: HostRuntime) -> Result<(), Fail> {
     let expected = Refusal(10, 1, 1, 2);
     for cell in &CELLS_MISSPELT {
         let file = format!(in heap; "valve flow rain\n- {cell} -\n")?;
-        check_refused(&runtime, heap, POLICY, file.as_bytes(), expected).note(cell)?;
+        check_refused(&runtime, heap, cell, POLICY, file.as_bytes(), expected)?;
     }
     Ok(())
 }

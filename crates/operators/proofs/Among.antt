@@ -1,9 +1,9 @@
 -- What a search through a set finds, against `among`.
-use Rattle.std.proofs.Common.{◌≡◌, ℕ, ◌+◌, ◌<◌, ◌≤◌, Bool, true, false, ◌||◌, eqb, List, map, length, get_or, drop, ℤ, pos, negsuc, Decides, sym, refl, ap, ◌∙◌, arith}
-use Rattle.std.specs.List.{IsAnyAnswer}
-use Rattle.std.proofs.lemmas.List.Elements.{contains_decides}
+use Rattle.std.proofs.Common.{◌≡◌, ℕ, ◌+◌, ◌<◌, ◌≤◌, Bool, true, false, ◌||◌, List, [], ◌∷◌, map, length, get_or, drop, ℤ, pos, negsuc, Decides, sym, refl, ap, ◌∙◌, arith}
+use Rattle.std.specs.List.{list_any}
+use Rattle.std.specs.Ordering.{int_eq}
 use Rattle.std.proofs.lemmas.List.{at_drop_more, at_drop_all}
-use Rattle.std.proofs.lemmas.Bool.Decides.{nat_tests, same_from_decides, Decides-by_or, Decides-eqb}
+use Rattle.std.proofs.lemmas.Bool.Decides.{nat_tests, same_from_decides, Decides-int_eq}
 use Rattle.operators.specs.Operators.{among, same_number}
 
 -- a loop over s that looks for x, each member read by g: from i on is left to look at
@@ -30,8 +30,10 @@ same_number-decides (pos x) (negsuc y) = grind (arith, nat_tests)
 same_number-decides (negsuc x) (pos y) = grind (arith, nat_tests)
 same_number-decides (negsuc x) (negsuc y) = grind (arith, nat_tests)
 
+same_number-int_eq : (x y : ℤ) → int_eq y x ≡ same_number x y
+same_number-int_eq x y = same_from_decides (int_eq y x) (same_number x y) (Decides-int_eq y x) (same_number-decides x y)
+
 -- what `contains` answers of a slice of numbers
-pub contained : (x : ℤ) (ys : List ℤ) (r : Bool) → IsAnyAnswer (λ y t. Decides t (y ≡ x)) ys r → r ≡ among same_number x ys
-contained x ys r h =
-    same_from_decides r (among same_number x ys) (contains_decides eqb Decides-eqb ys x r h)
-    (Decides-by_or (same_number x) (λ y. y ≡ x) (among same_number x) (same_number-decides x) refl (λ _ _. refl) ys)
+pub contained : (x : ℤ) (ys : List ℤ) → list_any (λ y. int_eq y x) ys ≡ among same_number x ys
+contained x [] = refl
+contained x (y ∷ ys) = ap (λ t. t || list_any (λ z. int_eq z x) ys) (same_number-int_eq x y) ∙ ap (λ t. same_number x y || t) (contained x ys)

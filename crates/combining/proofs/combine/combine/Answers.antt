@@ -13,7 +13,7 @@ returns-then-stops g c =
     let rest = c.args.rest.now in
     let seen = c.args.first ∷ take c.loop-i.i rest in
     let inv = c.loop-i.invariant (c.args.first ∷ []) c.start-state.ensures in
-    let stop = ends_at w c.args.strategy seen c.is-final.result true (c.is-final.ensures seen inv.0) c.if-stops.ensures in
+    let stop = ends_at w c.args.strategy seen c.is_final.result true (c.is_final.ensures seen inv.0) c.if-stops.ensures in
     let h = answered w (g.met.G.CombiningAlgorithm.stays a) c.args.strategy c.args.first rest c.loop-i.i (c.loop-i.i + 1) c.decision.result (omega arith) refl
     (c.decision.ensures seen inv.0) inv.1 (stop_here w c.args.strategy seen (drop c.loop-i.i rest) stop) in
     record { visits = h.count; within = omega arith; visited = h.visited; decides = h.decides }
@@ -25,7 +25,7 @@ loop-i-preserved g c = λ before r.
     let rest = c.args.rest.now in
     let seen = before ++ take c.loop-i.i rest in
     let inv = c.loop-i.invariant before r in
-    let on = ends_at w c.args.strategy seen c.is-final.result false (c.is-final.ensures seen inv.0) c.if-stops.ensures in (
+    let on = ends_at w c.args.strategy seen c.is_final.result false (c.is_final.ensures seen inv.0) c.if-stops.ensures in (
       subst (g.G.CombiningAlgorithm.reached a c.step-state.result) (sym (seen_more before rest c.loop-i.i Permit c.loop-i-test.true)) (c.step-state.ensures seen inv.0),
       one_more w c.args.strategy before rest c.loop-i.i (visits w c.args.strategy before rest) Permit c.loop-i-test.true on inv.1,
     )

@@ -3,10 +3,9 @@ use Rattle.std.proofs.Common.{◌≡◌, Bool, true, false, cond, List, [], ◌�
 use Rattle.std.proofs.lemmas.List.{append-nil, map-append}
 use Rattle.combining.specs.declared.decision.Decision.{Decision}
 use Rattle.combining.specs.Decisions.{same_decision}
-use Rattle.combining.specs.Wording.{Wording, FinalStays}
-use Rattle.combining.specs.Combined.{Response, decision_of, taken, joined, first_taken, duties_for, answer_on}
+use Rattle.combining.specs.Combined.{Response, decision_of, taken, joined, first_taken, duties_for}
 use Rattle.trees.specs.Duties.{Due}
-use Rattle.trees.specs.Final.{Begins, StaysFinal, FinalResponsesStay}
+use Rattle.trees.specs.Final.{Begins, FinalResponsesStay}
 
 joined-begins : (d : Decision) (rs : List (Response Due)) (q : Response Due) → joined d (rs ++ q ∷ []) ≡ joined d rs ++ taken d q
 joined-begins d [] q = append-nil (taken d q)

@@ -1,16 +1,14 @@
 -- The part of a line, by the parts of the lines that it names.
-use Rattle.std.proofs.Common.{◌≡◌, ℕ, zero, suc, ◌+◌, ◌-◌, ◌<◌, ◌≤◌, Bool, true, false, ◌&&◌, ltb, List, [], ◌∷◌, ◌++◌, length, get_or, Some, None, Option, sym, refl, ap, ◌∙◌, subst, add-zero, zero-add, arith, length-append}
+use Rattle.std.proofs.Common.{◌≡◌, ℕ, zero, suc, ◌+◌, ◌-◌, ◌<◌, ◌≤◌, Bool, true, false, ◌&&◌, List, [], ◌∷◌, ◌++◌, length, get_or, Some, None, Option, sym, refl, ap, ◌∙◌, subst, add-zero, arith, length-append}
 use Rattle.std.proofs.lemmas.List.{get_or_append_left, get_or_push, length_push}
 use Rattle.std.proofs.lemmas.Bool.Decides.{nat_tests}
 use Rattle.policy.specs.declared.line.Line.{Line}
 use Rattle.policy.specs.declared.line.Line.TheVariants as l
 use Rattle.policy.specs.declared.line.Family.{Family}
-use Rattle.policy.specs.Lines.{line_at, Reference, references, may_name, names}
+use Rattle.policy.specs.Lines.{line_at, Reference, references, may_name}
 use Rattle.policy.specs.Tree.{is_sound, all_sound, Above}
 use Rattle.trees.specs.Expressions.{Expression}
-use Rattle.trees.specs.Duties.{Duties}
-use Rattle.trees.specs.Policies.{Policy, Items}
-use Rattle.trees.specs.Parts.{Part, no_part, part_at, duties_at, items_with, part_for, parts_after, parts_of}
+use Rattle.trees.specs.Parts.{Part, no_part, part_at, duties_at, part_for, parts_after, parts_of}
 
 -- every reference is to a line above n
 abbrev pub below : ℕ → List Reference → Type 0

@@ -10,16 +10,16 @@ use Rattle.policy.specs.declared.line.Operator.{Operator}
 use Rattle.policy.specs.declared.line.Force.{Force}
 use Rattle.policy.specs.declared.line.Effect.{Effect}
 use Rattle.policy.specs.declared.line.Family.{Family}
-use Rattle.policy.specs.Lines.{line_at, references, may_name}
+use Rattle.policy.specs.Lines.{line_at, may_name}
 use Rattle.policy.specs.Tree.{Above}
-use Rattle.trees.specs.Expressions.{Expression, value_of}
+use Rattle.trees.specs.Expressions.{value_of}
 use Rattle.policy.specs.declared.line.Force.TheVariants.{May}
-use Rattle.trees.specs.Duties.{Duties, none, then, dues_of}
-use Rattle.trees.specs.Parts.{Part, part_at, part_for, duties_at, as_expression, as_duties, as_items, as_policy, no_expression, no_policy}
+use Rattle.trees.specs.Duties.{none, dues_of}
+use Rattle.trees.specs.Parts.{Part, part_at, part_for, duties_at, as_expression, as_duties, as_items, as_policy, no_policy}
 use Rattle.trees.specs.Known.{known, known_parts, nothing}
 use Rattle.trees.proofs.Grown.{grown, rests, below, below-append}
 use Rattle.combining.specs.declared.decision.Decision.TheVariants.{Indeterminate}
-use Rattle.trees.specs.Policies.{respond, Policy, Items, one, more, bare, on_target, appended, decision_for}
+use Rattle.trees.specs.Policies.{respond, one, bare, on_target, appended, decision_for}
 use Rattle.deciding.specs.Kept.{Within, due, due_from, due_at, responses_of, response_at, set_response}
 use Rattle.deciding.proofs.Adding.{due-is}
 

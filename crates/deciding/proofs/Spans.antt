@@ -2,12 +2,12 @@
 use Rattle.std.proofs.Common.{◌≡◌, ℕ, zero, suc, ◌+◌, ◌-◌, ◌<◌, ◌≤◌, Bool, true, false, cond, ◌⊎◌, List, [], ◌∷◌, ◌++◌, map, length, get_or, take, drop, set, vec_items, vec_len, Vec, sym, refl, ap, ◌∙◌, subst, inl, inr, append_assoc, arith, length-append, length-drop, get_or-set_other, get_or-set_same}
 use lib.Seq.{drop-append_seam}
 use Rattle.std.proofs.lemmas.Bool.{cases_eq}
-use Rattle.std.proofs.lemmas.List.{map-append, take-append-le, drop-append-le, length-map, length-take-le, take_all, take-map, drop-map, take_more, get_or-drop, get_or_append_left, get_or-map, append-nil}
+use Rattle.std.proofs.lemmas.List.{map-append, take-append-le, drop-append-le, length-map, length-take-le, take_all, take-map, drop-map, take_more, get_or-drop, get_or_append_left, get_or-map}
 use Rattle.values.specs.Values.{Val}
 use Rattle.policy.specs.declared.line.Line.{Line}
 use Rattle.combining.specs.declared.decision.Decision.{Decision}
 use Rattle.combining.specs.Decisions.{same_decision}
-use Rattle.combining.specs.Combined.{Response, decision_of, joined, first_taken}
+use Rattle.combining.specs.Combined.{Response, joined, first_taken}
 use Rattle.trees.specs.Duties.{Due}
 use Rattle.deciding.specs.declared.kept.Kept.{Kept}
 use Rattle.deciding.specs.Room.{Responds}

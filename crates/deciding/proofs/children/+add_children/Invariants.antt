@@ -1,5 +1,5 @@
 use Rattle.std.proofs.Common.{length}
 use Rattle.deciding.proofs.children.+add_children.Given as goal
 
-abbrev pub decreases-add-children : goal.decreases-add-children
-decreases-add-children l = length l.children.now
+abbrev pub decreases-add_children : goal.decreases-add_children
+decreases-add_children l = length l.children.now

@@ -1,4 +1,4 @@
 use Rattle.deciding.proofs.children.+list_children.Given as goal
 
-abbrev pub decreases-list-children : goal.decreases-list-children
-decreases-list-children l = l.last
+abbrev pub decreases-list_children : goal.decreases-list_children
+decreases-list_children l = l.last

@@ -6,4 +6,4 @@ pub loop-j-preserved : goal.loop-j-preserved
 loop-j-preserved c =
     let n : length (vec_items c.args.out.now) ≡ vec_len c.args.out.now = search rules in
     let w : c.args.start + c.loop-j.j < length (vec_items c.args.out.now) = search rules in
-    (c.push-reserved.ensures.items ∙ copy_more c.args.start c.loop-j.j (vec_items c.args.out.now) (vec_items c.loop-j.out) _ w c.loop-j.invariant.0 (search rules), search rules, search rules)
+    (c.push_reserved.ensures.items ∙ copy_more c.args.start c.loop-j.j (vec_items c.args.out.now) (vec_items c.loop-j.out) _ w c.loop-j.invariant.0 (search rules), search rules, search rules)

@@ -1,5 +1,5 @@
 use Rattle.deciding.specs.Kept.{height}
 use Rattle.deciding.proofs.duties.+add_chain.Given as goal
 
-abbrev pub decreases-add-chain : goal.decreases-add-chain
-decreases-add-chain l = height l.last
+abbrev pub decreases-add_chain : goal.decreases-add_chain
+decreases-add_chain l = height l.last

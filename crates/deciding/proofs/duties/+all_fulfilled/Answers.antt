@@ -1,4 +1,4 @@
-use Rattle.std.proofs.Common.{◌≡◌, true, false, ◌&&◌, map, sym, refl, ap, ◌∙◌, rules}
+use Rattle.std.proofs.Common.{◌&&◌, map, sym, ap, ◌∙◌, rules}
 use Rattle.values.specs.Values.{val_of}
 use Rattle.trees.specs.Expressions.{value_of}
 use Rattle.trees.specs.Duties.{all_fulfilled, fulfils}
@@ -7,26 +7,26 @@ use Rattle.trees.specs.Known.{known_parts, nothing}
 use Rattle.deciding.proofs.Meaning.{chain_is, no_chain}
 use Rattle.deciding.proofs.duties.+all_fulfilled.Goals as goal
 
-pub returns-then-not-all-fulfilled : goal.returns-then-not-all-fulfilled
-returns-then-not-all-fulfilled t c =
+pub returns-then-not-all_fulfilled : goal.returns-then-not-all_fulfilled
+returns-then-not-all_fulfilled t c =
     let ls = c.args.lines.now in
     let vs = map val_of c.args.readings.now in
     sym (ap (λ o. all_fulfilled nothing (duties_at (known_parts ls vs) o)) c.in-Some.is
     ∙ ap (all_fulfilled nothing) (chain_is ls vs c.requires.above c.in-Some.number (search rules) (search rules) c.in-Duty.is)
-    ∙ ap (λ b. b && fulfils (value_of nothing (as_expression (part_at (known_parts ls vs) c.in-Duty.argument)))) (sym c.if-not-all-fulfilled.ensures))
+    ∙ ap (λ b. b && fulfils (value_of nothing (as_expression (part_at (known_parts ls vs) c.in-Duty.argument)))) (sym c.if-not-all_fulfilled.ensures))
 
-pub returns-else-not-all-fulfilled : goal.returns-else-not-all-fulfilled
-returns-else-not-all-fulfilled t c =
+pub returns-else-not-all_fulfilled : goal.returns-else-not-all_fulfilled
+returns-else-not-all_fulfilled t c =
     let ls = c.args.lines.now in
     let vs = map val_of c.args.readings.now in
-    c.is-fulfilled.ensures ∙ ap fulfils c.value-argument.ensures
+    c.is_fulfilled.ensures ∙ ap fulfils c.value-argument.ensures
     ∙ sym (ap (λ o. all_fulfilled nothing (duties_at (known_parts ls vs) o)) c.in-Some.is
     ∙ ap (all_fulfilled nothing) (chain_is ls vs c.requires.above c.in-Some.number (search rules) (search rules) c.in-Duty.is)
-    ∙ ap (λ b. b && fulfils (value_of nothing (as_expression (part_at (known_parts ls vs) c.in-Duty.argument)))) (sym c.if-not-all-fulfilled.ensures))
+    ∙ ap (λ b. b && fulfils (value_of nothing (as_expression (part_at (known_parts ls vs) c.in-Duty.argument)))) (sym c.if-not-all_fulfilled.ensures))
 
-pub returns-in-default : goal.returns-in-default
-returns-in-default t c =
+pub returns-in_default : goal.returns-in_default
+returns-in_default t c =
     let ls = c.args.lines.now in
     let vs = map val_of c.args.readings.now in
     sym (ap (λ o. all_fulfilled nothing (duties_at (known_parts ls vs) o)) c.in-Some.is
-    ∙ ap (all_fulfilled nothing) (no_chain ls vs c.requires.above c.in-Some.number (search rules) (search rules) c.in-default.not-Duty))
+    ∙ ap (all_fulfilled nothing) (no_chain ls vs c.requires.above c.in-Some.number (search rules) (search rules) c.in_default.not-Duty))

@@ -1,4 +1,4 @@
-use Rattle.std.proofs.Common.{◌≡◌, map, length, sym, refl, ap, ◌∙◌, arith}
+use Rattle.std.proofs.Common.{map, length, ap, arith}
 use Rattle.combining.specs.declared.decision.Decision.TheVariants.{Permit}
 use Rattle.combining.specs.Combined.{decision_of}
 use Rattle.deciding.proofs.Spans.{first_and_others}

@@ -1,4 +1,4 @@
-use Rattle.std.proofs.Common.{◌≡◌, ℕ, ◌<◌, ◌≤◌, List, [], map, length, sym, refl, ap, ◌∙◌, subst, arith, rules}
+use Rattle.std.proofs.Common.{map, sym, ap, ◌∙◌, arith, rules}
 use Rattle.values.specs.Values.{val_of}
 use Rattle.combining.specs.Combined.{Response}
 use Rattle.trees.specs.Duties.{Due}
@@ -22,14 +22,14 @@ close-requires c =
       spans = tt;
       room = room_as c.args.out.now _ _ (ap (λ (r : Response Due). r.duties) (rule_is ls vs c.requires.above c.args.number c.requires.low c.requires.high c.in-Rule.is
           ∙ ap (λ v. on_target v x) (sym c.value-target.ensures) ∙ c.in-None.ensures x
-          ∙ ap (λ d. appended nothing (duties_at (known_parts ls vs) c.in-Rule.duty) (bare d)) (sym c.effect-decision-decision.ensures))) c.requires.room;
+          ∙ ap (λ d. appended nothing (duties_at (known_parts ls vs) c.in-Rule.duty) (bare d)) (sym c.effect_decision-decision.ensures))) c.requires.room;
     }
 
-pub set-response-requires : goal.set-response-requires
-set-response-requires c =
+pub set_response-requires : goal.set_response-requires
+set_response-requires c =
     let ls = c.args.lines.now in
     let vs = map val_of c.args.readings.now in
-    let x : Response Due = set_response ls vs c.in-Set.combining c.in-Set.items c.in-Set.on-permit c.in-Set.on-deny in
+    let x : Response Due = set_response ls vs c.in-Set.combining c.in-Set.items c.in-Set.on_permit c.in-Set.on_deny in
     let w = set-within ls vs c.requires.above c.args.number c.requires.low c.requires.high c.in-Set.is in
     let w1 = w.1 in
     let h = c.requires.high in
@@ -44,7 +44,7 @@ set-response-requires c =
       count = c.requires.count;
       kept = kept_less c.args.number c.in-Set.items ls vs c.args.responses.now _ (omega (arith, w1)) c.requires.kept;
       room = room_as c.args.out.now _ _ (ap (λ (r : Response Due). r.duties) (set-line_is ls vs c.requires.above c.args.number c.requires.low c.requires.high c.in-Set.is
-          ∙ ap (λ v. on_target v x) (sym c.value-target-in-Set.ensures) ∙ c.in-None-ended-by.ensures x)) c.requires.room;
+          ∙ ap (λ v. on_target v x) (sym c.value-target-in-Set.ensures) ∙ c.in-None-ended_by.ensures x)) c.requires.room;
     }
 
 pub returns-in-Some : goal.returns-in-Some
@@ -67,37 +67,37 @@ returns-in-None c =
     record {
       responds = responds_as ls vs _ _ _ _ _ (rule_is ls vs c.requires.above c.args.number c.requires.low c.requires.high c.in-Rule.is
           ∙ ap (λ v. on_target v x) (sym c.value-target.ensures) ∙ c.in-None.ensures x
-          ∙ ap (λ d. appended nothing (duties_at (known_parts ls vs) c.in-Rule.duty) (bare d)) (sym c.effect-decision-decision.ensures)) c.close.ensures;
+          ∙ ap (λ d. appended nothing (duties_at (known_parts ls vs) c.in-Rule.duty) (bare d)) (sym c.effect_decision-decision.ensures)) c.close.ensures;
       cap = search rules;
       limit = search rules;
     }
 
-pub returns-in-Some-ended-by : goal.returns-in-Some-ended-by
-returns-in-Some-ended-by c =
+pub returns-in-Some-ended_by : goal.returns-in-Some-ended_by
+returns-in-Some-ended_by c =
     let ls = c.args.lines.now in
     let vs = map val_of c.args.readings.now in
-    let x : Response Due = set_response ls vs c.in-Set.combining c.in-Set.items c.in-Set.on-permit c.in-Set.on-deny in
+    let x : Response Due = set_response ls vs c.in-Set.combining c.in-Set.items c.in-Set.on_permit c.in-Set.on_deny in
     record {
       responds = responds_bare ls vs _ _ _ (set-line_is ls vs c.requires.above c.args.number c.requires.low c.requires.high c.in-Set.is
-          ∙ ap (λ v. on_target v x) (sym c.value-target-in-Set.ensures) ∙ c.in-Some-ended-by.ensures x);
+          ∙ ap (λ v. on_target v x) (sym c.value-target-in-Set.ensures) ∙ c.in-Some-ended_by.ensures x);
       cap = search rules;
       limit = search rules;
     }
 
-pub returns-in-None-ended-by : goal.returns-in-None-ended-by
-returns-in-None-ended-by c =
+pub returns-in-None-ended_by : goal.returns-in-None-ended_by
+returns-in-None-ended_by c =
     let ls = c.args.lines.now in
     let vs = map val_of c.args.readings.now in
-    let x : Response Due = set_response ls vs c.in-Set.combining c.in-Set.items c.in-Set.on-permit c.in-Set.on-deny in
+    let x : Response Due = set_response ls vs c.in-Set.combining c.in-Set.items c.in-Set.on_permit c.in-Set.on_deny in
     record {
       responds = responds_as ls vs _ _ _ _ _ (set-line_is ls vs c.requires.above c.args.number c.requires.low c.requires.high c.in-Set.is
-          ∙ ap (λ v. on_target v x) (sym c.value-target-in-Set.ensures) ∙ c.in-None-ended-by.ensures x) c.set-response.ensures.responds;
+          ∙ ap (λ v. on_target v x) (sym c.value-target-in-Set.ensures) ∙ c.in-None-ended_by.ensures x) c.set_response.ensures.responds;
       cap = search rules;
       limit = search rules;
     }
 
-pub returns-in-default : goal.returns-in-default
-returns-in-default c =
+pub returns-in_default : goal.returns-in_default
+returns-in_default c =
     let ls = c.args.lines.now in
     let vs = map val_of c.args.readings.now in
-    record { responds = responds_bare ls vs _ _ _ (no_policy_lem ls vs c.requires.above c.args.number c.requires.low c.requires.high c.in-default.not-Rule c.in-default.not-Set); cap = search rules; limit = search rules }
+    record { responds = responds_bare ls vs _ _ _ (no_policy_lem ls vs c.requires.above c.args.number c.requires.low c.requires.high c.in_default.not-Rule c.in_default.not-Set); cap = search rules; limit = search rules }

@@ -1,4 +1,4 @@
-use Rattle.std.proofs.Common.{◌≡◌, ◌+◌, ◌*◌, ◌≤◌, map, length, vec_items, vec_len, vec_capacity}
+use Rattle.std.proofs.Common.{◌≡◌, ◌+◌, ◌*◌, ◌≤◌, map, vec_items, vec_len, vec_capacity}
 use Rattle.values.specs.Values.{val_of}
 use Rattle.deciding.specs.Kept.{KeptTo, read_dues}
 use Rattle.deciding.proofs.lines.respond_all.Given as goal

@@ -1,4 +1,4 @@
-use Rattle.std.proofs.Common.{◌≡◌, map, sym, refl, ap, ◌∙◌, to_z-of_z, w32, SFits, to_z, of_z, rules}
+use Rattle.std.proofs.Common.{map, sym, refl, ap, ◌∙◌, to_z-of_z, w32, SFits, rules}
 use Rattle.values.specs.Values.{val_of, number}
 use Rattle.operators.specs.Operators.{not_of}
 use Rattle.trees.specs.Expressions.{applied}
@@ -27,8 +27,8 @@ returns-in-Binary t c =
     c.apply.ensures ∙ ap (λ v. applied c.in-Binary.operator v (val_of c.value-right.result)) c.value-left.ensures ∙ ap (applied c.in-Binary.operator _) c.value-right.ensures
     ∙ sym (value_is c.args.lines.now (map val_of c.args.readings.now) c.requires.above c.args.number c.requires.low c.requires.high c.in-Binary.is)
 
-pub returns-in-default : goal.returns-in-default
-returns-in-default t c =
+pub returns-in_default : goal.returns-in_default
+returns-in_default t c =
     sym (value_is c.args.lines.now (map val_of c.args.readings.now) c.requires.above c.args.number c.requires.low c.requires.high refl
     ∙ no_expression_lem c.args.lines.now (map val_of c.args.readings.now) c.requires.above c.args.number c.requires.low c.requires.high refl
-    c.in-default.not-Truth c.in-default.not-Attribute c.in-default.not-Number c.in-default.not-Text c.in-default.not-Not c.in-default.not-Binary)
+    c.in_default.not-Truth c.in_default.not-Attribute c.in_default.not-Number c.in_default.not-Text c.in_default.not-Not c.in_default.not-Binary)

@@ -1,4 +1,4 @@
-use Rattle.std.proofs.Common.{◌≡◌, sym, ap, ◌∙◌}
+use Rattle.std.proofs.Common.{sym, ap, ◌∙◌}
 use Rattle.values.specs.Values.{val_of}
 use Rattle.trees.specs.Expressions.{applied}
 use Rattle.deciding.proofs.value.apply.Goals as goal

@@ -17,8 +17,8 @@ returns-in_err-c c = rw (six-by_cuts c.args.s.now) (search rules)
 pub returns-in_err-d : goal.returns-in_err-d
 returns-in_err-d c = rw (six-by_cuts c.args.s.now) (search rules)
 
-pub returns-then-position-e : goal.returns-then-position-e
-returns-then-position-e c = rw (six-by_cuts c.args.s.now) (search rules)
+pub returns-then-is_some : goal.returns-then-is_some
+returns-then-is_some c = rw (six-by_cuts c.args.s.now) (search rules)
 
 pub returns : goal.returns
 returns c = rw (six-by_cuts c.args.s.now) (search rules)

@@ -1,5 +1,5 @@
 -- Members joined by commas, read one after the other.
-use Rattle.std.proofs.Common.{◌≡◌, ℕ, suc, ◌+◌, ◌-◌, ◌*◌, ◌<◌, ◌≤◌, Bool, true, false, cond, not, ◌&&◌, eqb, ltb, leb, List, [], ◌∷◌, ◌++◌, map, length, get_or, Some, None, codes, Option, sym, refl, ap, ◌∙◌, subst, append_assoc, arith, length-append}
+use Rattle.std.proofs.Common.{◌≡◌, ℕ, ◌+◌, ◌-◌, ◌*◌, ◌<◌, ◌≤◌, Bool, true, false, cond, not, ◌&&◌, eqb, ltb, leb, List, [], ◌∷◌, ◌++◌, length, get_or, Some, None, codes, Option, sym, refl, ap, ◌∙◌, subst, append_assoc, arith, length-append}
 use Rattle.std.proofs.lemmas.Bool.Decides.{nat_tests}
 use Rattle.std.specs.Str.{bytes_eq}
 use Rattle.values.specs.Options.{each, bind, or_else}
@@ -7,7 +7,6 @@ use Rattle.values.specs.Sets.{joined}
 use Rattle.values.specs.Short.{text_for}
 use Rattle.values.specs.declared.value.Value.{Value}
 use Rattle.values.specs.declared.value.Value.TheVariants.{Missing as missing, Error as error, Bool as boolean, Number as number, Text as text, Numbers as numbers, Texts as texts}
-use Rattle.values.specs.Short.{Text}
 use Rattle.spelling.specs.Cuts.{parts, cut_of, onto}
 use Rattle.spelling.specs.Numbers.{is_digit, digits_after, natural_of, at_most, positive, negative, number_of}
 use Rattle.spelling.specs.Words.{is_letter, all_word_bytes, text_of}
@@ -95,9 +94,9 @@ abbrev pub gathered_by : {A : Type 0} → (List ℕ → Option A) → (A → Val
 gathered_by f one set xs None = each one (f xs)
 gathered_by f one set xs (Some p) = bind (f p.0) (λ x. each set (bind (read_all f (parts 44 p.1)) (λ zs. at_most_eight (x ∷ zs))))
 
-pub gathered-cut : {A : Type 0} (f : List ℕ → Option A) (one : A → Value) (set : List A → Value) (xs : List ℕ) → bind (read_all f (parts 44 xs)) (gathered one set) ≡ gathered_by f one set xs (cut_of 44 xs)
+pub gathered_cut : {A : Type 0} (f : List ℕ → Option A) (one : A → Value) (set : List A → Value) (xs : List ℕ) → bind (read_all f (parts 44 xs)) (gathered one set) ≡ gathered_by f one set xs (cut_of 44 xs)
 unfolding more
-gathered-cut {A = A} f one set xs = at (cut_of 44 xs) refl where
+gathered_cut {A = A} f one set xs = at (cut_of 44 xs) refl where
   at : (o : Option (List ℕ × List ℕ)) → cut_of 44 xs ≡ o → bind (read_all f (parts 44 xs)) (gathered one set) ≡ gathered_by f one set xs o
   at None h = only_member f one set xs h
   at (Some p) h = several f one set xs p h

@@ -130,8 +130,8 @@ six_by xs =
     cond (is_some (position (λ x. eqb x 32) t.1)) None
     (Some (record { kind = p.0; a = q.0; b = r.0; c = s.0; d = t.0; e = t.1 })))))))
 
-pub six-by_cuts : (xs : List ℕ) → six_of (parts 32 xs) ≡ six_by xs
-six-by_cuts =
+pub six_by_cuts : (xs : List ℕ) → six_of (parts 32 xs) ≡ six_by xs
+six_by_cuts =
     cut_step 32 six_of _ (λ _. refl) (λ p.
     cut_step 32 (λ ps. six_of (p.0 ∷ ps)) _ (λ _. refl) (λ q.
     cut_step 32 (λ ps. six_of (p.0 ∷ q.0 ∷ ps)) _ (λ _. refl) (λ r.

@@ -34,6 +34,7 @@ pub fn cut<'a>(s: &'a [u8], b: u8) -> Option<(&'a [u8], &'a [u8])>
 }
 
 // The fields of a line that has exactly five spaces.
+#[tactic(auto, using(crate::proofs::Cuts::six_by_cuts))]
 pub fn split<'a>(s: &'a [u8]) -> Option<Fields<'a>>
     ensures { each seen result ≡ six_of (parts 32 s.now) }
 {

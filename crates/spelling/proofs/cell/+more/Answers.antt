@@ -1,6 +1,5 @@
-use Rattle.std.proofs.Common.{sym, rules}
+use Rattle.std.proofs.Common.{rules}
 use Rattle.spelling.proofs.Cells.{more_cut}
-use Rattle.spelling.proofs.Cuts.{cut_shorter}
 use Rattle.spelling.proofs.cell.+more.Goals as goal
 
 pub returns-in_err-read-in-None : goal.returns-in_err-read-in-None

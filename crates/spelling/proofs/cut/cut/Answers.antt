@@ -1,4 +1,4 @@
-use Rattle.std.proofs.Common.{rules, refl}
+use Rattle.std.proofs.Common.{rules}
 use Rattle.std.proofs.lemmas.List.{take_rest}
 use Rattle.spelling.proofs.Cuts.{cut_at, cut_found}
 use Rattle.spelling.proofs.cut.cut.Goals as goal

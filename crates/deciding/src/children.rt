@@ -94,7 +94,7 @@ pub(crate) fn add_children(
     }
     let child = children[0];
     let others = &children[1..];
-    if !decision.is(child.decision) {
+    if decision != child.decision {
         add_children(joins, decision, others, out);
         return;
     }

@@ -76,7 +76,7 @@ fn combine_children(combining: Combining, decisions: &[Decision]) -> Combined
     combine(
         &combining.algorithm,
         combining.strategy,
-        decisions[0],
+        &decisions[0],
         &decisions[1..],
     )
 }

@@ -1,4 +1,5 @@
 use Rattle.std.proofs.Common.{map, length, ap, arith}
+use Rattle.std.proofs.lemmas.List.{map-id}
 use Rattle.combining.specs.declared.decision.Decision.TheVariants.{Permit}
 use Rattle.combining.specs.Combined.{decision_of}
 use Rattle.deciding.proofs.Spans.{first_and_others}
@@ -12,6 +13,6 @@ returns c =
     let w = c.combine.ensures.within in
     record {
       combines = λ r rs e. combined-is c.args.combining r rs _ _ c.combine.result.visited c.combine.result.decision
-          (first_is ds r.decision (map decision_of rs) e) (others_are ds r.decision (map decision_of rs) e) c.combine.ensures.visits c.combine.ensures.visited;
+          (first_is ds r.decision (map decision_of rs) e) (others_are ds r.decision (map decision_of rs) e) (simp map-id at c.combine.ensures.visits) (simp map-id at c.combine.ensures.visited);
       within = omega (arith, l, w);
     }

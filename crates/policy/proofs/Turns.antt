@@ -38,20 +38,17 @@ module _ (ls : List Line) (ms : Marks) (xs : List ℕ) (want : Read) (some : eqb
       let z : suc (256 - n) ≡ 256 - length ls = omega arith in
       ap (λ k. from (256 - n) ls (at_line k (step_of ls ms xs))) e ∙ sym (body_more (256 - n) ls ms xs some) ∙ ap (λ k. body_of k ls ms xs) z ∙ inv
 
-  pub stops : (n : ℕ) → n ≡ length ls + 1 → n ≤ 256 → (above : List Line) → above ≡ ls → (r : Result (Line × Bor (List ℕ)) LineFault) (after : Marks) → stepped r after ≡ step_of above ms xs
+  pub stops : (n : ℕ) → n ≡ length ls + 1 → n ≤ 256 → (r : Result (Line × Bor (List ℕ)) LineFault) (after : Marks) → stepped r after ≡ step_of ls ms xs
       → (e : Rejection) → Err e ≡ at_line n r → Err e ≡ want
   unfolding from
-  stops n is h above same r after step e at =
-      ap (from (256 - n) ls) (failed n r after e at ∙ ap (at_line n) (step ∙ ap (λ a. step_of a ms xs) same)) ∙ turned n is h
+  stops n is h r after step e at =
+      ap (from (256 - n) ls) (failed n r after e at ∙ ap (at_line n) step) ∙ turned n is h
 
-  pub goes : (n : ℕ) → n ≡ length ls + 1 → n ≤ 256 → (above : List Line) → above ≡ ls → (r : Result (Line × Bor (List ℕ)) LineFault) (after : Marks) → stepped r after ≡ step_of above ms xs
+  pub goes : (n : ℕ) → n ≡ length ls + 1 → n ≤ 256 → (r : Result (Line × Bor (List ℕ)) LineFault) (after : Marks) → stepped r after ≡ step_of ls ms xs
       → (p : Line × Bor (List ℕ)) → Ok p ≡ at_line n r → (more : List Line) → more ≡ ls ++ p.0 ∷ [] → body_of (256 - length more) more after p.1.now ≡ want
   unfolding from
-  goes n is h above same r after step p at more pushed =
+  goes n is h r after step p at more pushed =
       let l = length_push ls p.0 in
       let y : 256 - length more ≡ 256 - n = ap (λ k. 256 - k) (ap length pushed ∙ l ∙ sym is) in
       (λ i. body_of (y i) (pushed i) after p.1.now)
-      ∙ ap (from (256 - n) ls) (passed n r after p at ∙ ap (at_line n) (step ∙ ap (λ a. step_of a ms xs) same)) ∙ turned n is h
-
-pub body_start : (ls : List Line) (ms : Marks) (xs : List ℕ) → ls ≡ [] → body_of (256 - length ls) ls ms xs ≡ body_of 256 [] ms xs
-body_start ls ms xs e = ap (λ k. body_of (256 - length k) k ms xs) e
+      ∙ ap (from (256 - n) ls) (passed n r after p at ∙ ap (at_line n) step) ∙ turned n is h

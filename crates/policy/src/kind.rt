@@ -6,7 +6,7 @@ ghost use Rattle.policy.specs.Kinds.{operator_named, leaf_named, branch_named, k
 use crate::line::{Effect, Force, Operator};
 use spelling::word::is;
 
-#[derive(Clone, Copy)]
+#[derive(Clone, Copy, PartialEq, Eq)]
 pub enum Kind {
     Truth(bool),
     Attribute,
@@ -90,11 +90,7 @@ fn branch_named(s: &[u8]) -> Option<Kind>
 pub fn read_kind(s: &[u8]) -> Option<Kind>
     ensures { result ≡ kind_of s.now }
 {
-    match leaf_named(s) {
-        Some(kind) => Some(kind),
-        None => match operator_named(s) {
-            Some(kind) => Some(kind),
-            None => branch_named(s),
-        },
-    }
+    leaf_named(s)
+        .or_else(|| operator_named(s))
+        .or_else(|| branch_named(s))
 }

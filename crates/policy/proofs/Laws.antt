@@ -1,7 +1,7 @@
 -- What holds of every accepted file.
 use Rattle.std.proofs.Common.{◌≡◌, ℕ, zero, suc, ◌+◌, ◌-◌, ◌<◌, ◌≤◌, Bool, true, false, cond, ◌&&◌, eqb, ltb, List, [], ◌∷◌, ◌++◌, length, get_or, take, drop, replicate, Some, None, Ok, codes, Option, sym, refl, ap, ◌∙◌, subst, ⊎_elim, append_assoc, arith, length-drop}
 use Rattle.std.proofs.lemmas.List.{length_push, length-take-le, get_or-take, get_or-drop, append-nil, get_or_append_left, get_or_push}
-use Rattle.std.proofs.lemmas.Bool.{cases_eq, eqb-false}
+use Rattle.std.proofs.lemmas.Bool.{and_parts, cases_eq, eqb-false}
 use Rattle.std.proofs.lemmas.Bool.Decides.{nat_tests}
 use Rattle.std.specs.Str.{bytes_eq}
 use Rattle.refusals.specs.Results.{or_refuse}
@@ -37,15 +37,10 @@ sound_one ls x n r le h =
     let e = line_kept ls x r.line lo (omega arith) in
     ap (λ y. ltb 0 r.line && (ltb r.line n && same_family (family_of y) r.family)) e ∙ h
 
-and_both : (t u : Bool) → t && u ≡ true → (t ≡ true) × (u ≡ true)
-and_both true u e = (refl, e)
-and_both false true e = (e, refl)
-and_both false false e = (e, e)
-
 sound_kept : (ls : List Line) (x : Line) (n : ℕ) (rs : List Reference) → n ≤ length ls + 1 → all_sound ls n rs ≡ true → all_sound (ls ++ x ∷ []) n rs ≡ true
 sound_kept ls x n [] le h = refl
 sound_kept ls x n (r ∷ rs) le h =
-    let p = and_both (is_sound ls n r) (all_sound ls n rs) h in
+    let p = and_parts (is_sound ls n r) (all_sound ls n rs) h in
     (λ i. sound_one ls x n r le p.0 i && sound_kept ls x n rs le p.1 i)
 
 -- the lines so far and their marks
@@ -157,14 +152,15 @@ body_whole (suc left) ls ms (x ∷ xs) out n g h =
     let w = body_whole left (ls ++ s.0 ∷ []) s.1 s.2 out (omega (arith, len)) (good_more ls ms s.1 s.0 g r.named r.spelled) a.1.1 in
     record { tree = w.tree; spells = w.spells ∙ rows-push ls s.0 s.2 ∙ ap (λ y. rows ls ++ y) r.spells; spelled = w.spelled }
 
-down : (n k : ℕ) → get_or (replicate n false) k false ≡ false
-down zero k = refl
-down (suc n) zero = refl
-down (suc n) (suc k) = down n k
+-- no mark is set at the start
+pub unmarked_start : (n k : ℕ) → get_or (replicate n false) k false ≡ false
+unmarked_start zero k = refl
+unmarked_start (suc n) zero = refl
+unmarked_start (suc n) (suc k) = unmarked_start n k
 
 start : Good [] no_marks
 unfolding no_marks
-start = record { counts = λ k. ap (λ t. cond t 1 0) (sym (down 257 k)); long = refl; sound = λ n lo hi. absurd (omega arith); spelled = λ n lo hi. absurd (omega arith) }
+start = record { counts = λ k. ap (λ t. cond t 1 0) (sym (unmarked_start 257 k)); long = refl; sound = λ n lo hi. absurd (omega arith); spelled = λ n lo hi. absurd (omega arith) }
 
 header_back : (xs body : List ℕ) → header_of xs ≡ Some body → codes "kind a b c d e" ++ 10 ∷ body ≡ xs
 header_back xs body h =

@@ -1,10 +1,8 @@
 // A line of each kind, its fields from the left.
 
 ghost use Rattle.std.specs.Prelude.{◌≡◌};
-ghost use Rattle.refusals.specs.Places.{at_field};
-ghost use Rattle.refusals.specs.Results.{bind_r, or_refuse};
 ghost use Rattle.spelling.specs.Fields.{seen};
-ghost use Rattle.policy.specs.Check.{marking, last_four, not_of, binary_of, duty_of, item_of, rule_of, set_of, line_for, line_of};
+ghost use Rattle.policy.specs.Check.{marking, leaf_of, not_of, binary_of, duty_of, item_of, rule_of, set_of, line_for, line_of};
 
 use crate::draft::Draft;
 use crate::fields::{last_four, last_three, last_two};
@@ -17,9 +15,9 @@ use spelling::cut::Fields;
 use spelling::number::{action, number};
 use spelling::word::{is, name, text};
 
-// A line that names no other, where its one field is spelled right.
+// A line that names no other, from what its one field spells.
 fn leaf_line(fields: &Fields, line: Option<Line>) -> Result<Line, LineFault>
-    ensures { result ≡ bind_r (at_field 2 (or_refuse line Cause.Misspelt)) (λ read. bind_r (last_four (seen fields.now)) (λ _. Ok read)) }
+    ensures { result ≡ leaf_of line (λ spelled. spelled) (seen fields.now) }
 {
     let line = at_field(line.ok_or(Cause::Misspelt), 2)?;
     last_four(fields)?;

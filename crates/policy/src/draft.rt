@@ -7,7 +7,6 @@ use crate::accepted::Room;
 use crate::line::{Family, Line, LineNumber};
 use refusals::Cause;
 use spelling::number::line_number;
-use spelling::word::is;
 
 // The lines above the next one, in memory for all that a file may have.
 #[derive(Drop)]
@@ -62,9 +61,9 @@ impl Draft {
         ensures value { marking result self.new.named ≡ may_refer_of want self.old.lines.items self.old.named field.now }
         ensures lines { self.new.lines ≡ self.old.lines }
     {
-        if is(field, b"-") {
-            return Ok(None);
+        match field {
+            b"-" => Ok(None),
+            _ => self.refer(field, want).map(Some),
         }
-        self.refer(field, want).map(Some)
     }
 }

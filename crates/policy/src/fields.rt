@@ -7,15 +7,13 @@ ghost use Rattle.policy.specs.Check.{unused_of, last_two, last_three, last_four}
 use refusals::place::at_field;
 use refusals::{Cause, LineFault};
 use spelling::cut::Fields;
-use spelling::word::is;
 
 pub(crate) fn unused(field: &[u8]) -> Result<(), Cause>
     ensures { result ≡ unused_of field.now }
 {
-    if is(field, b"-") {
-        Ok(())
-    } else {
-        Err(Cause::Misspelt)
+    match field {
+        b"-" => Ok(()),
+        _ => Err(Cause::Misspelt),
     }
 }
 

@@ -1,5 +1,5 @@
 -- Every tree of lines that can be spelled has an accepted file.
-use Rattle.std.proofs.Common.{◌≡◌, ℕ, zero, suc, ◌+◌, ◌-◌, ◌<◌, ◌≤◌, Bool, true, false, cond, ◌&&◌, eqb, ltb, leb, List, [], ◌∷◌, ◌++◌, length, get_or, take, drop, set, replicate, ℤ, pos, Some, None, Ok, Err, codes, decimal, Option, sym, refl, ap, ◌∙◌, subst, append_assoc, arith, length-append, length-drop, length-set}
+use Rattle.std.proofs.Common.{◌≡◌, ℕ, zero, suc, ◌+◌, ◌-◌, ◌<◌, ◌≤◌, Bool, true, false, cond, ◌&&◌, eqb, ltb, leb, List, [], ◌∷◌, ◌++◌, length, get_or, take, drop, set, ℤ, pos, Some, None, Ok, Err, codes, decimal, Option, sym, refl, ap, ◌∙◌, subst, append_assoc, arith, length-append, length-drop, length-set}
 use Rattle.std.proofs.lemmas.List.{append-nil, get_or_append_left, get_or_at, get_or-take, get_or-drop, length-take-le, length_push}
 use Rattle.std.proofs.lemmas.Bool.{and_parts}
 use Rattle.std.proofs.lemmas.Bool.Decides.{nat_tests}
@@ -37,7 +37,7 @@ use Rattle.policy.specs.Check.{Marks, no_marks, marking, above, refer_of, may_re
 use Rattle.policy.specs.Spelt.{truth_word, operator_word, force_word, effect_word, optional, fields_for, row, rows, spelt}
 use Rattle.policy.specs.Tree.{is_sound, all_sound, times, namings, Tree}
 use Rattle.policy.specs.WellSpelt.{WellSpelt, AllWellSpelt, Spells}
-use Rattle.policy.proofs.Laws.{namings-push, unmarked_start}
+use Rattle.policy.proofs.Laws.{namings-both, unmarked_start}
 use Rattle.policy.proofs.Named.{mark, flagged}
 
 -- the marks after the references rs
@@ -105,43 +105,28 @@ may_forward want ls ms (Some k) rs few f =
     let no = not_dash (decimal k) (pos k) (decimal_number k (omega (arith, few, above))) in
     ((λ i. cond (no i) (Ok (None, ms)) (some (r.0 i))), r.1)
 
+may_last : (want : Family) (ls : List Line) (ms : Marks) (o : Option ℕ) → length ls ≤ 256 → Fits ls ms (may_name want o) → may_refer_of want ls ms (optional o) ≡ Ok (o, marks_after ms (may_name want o))
+may_last want ls ms o few f = (may_forward want ls ms o [] few (subst (Fits ls ms) (sym (append-nil (may_name want o))) f)).0
+
 -- an algorithm with its strategy
 
-combining_forward : (x : Algorithm) (y : Strategy) → combining_of (combining_word (record { algorithm = x; strategy = y })) ≡ Some (record { algorithm = x; strategy = y })
-combining_forward a.PermitOverrides s.All = refl
-combining_forward a.PermitOverrides s.Greedy = refl
-combining_forward a.DenyOverrides s.All = refl
-combining_forward a.DenyOverrides s.Greedy = refl
-combining_forward a.DenyUnlessPermit s.All = refl
-combining_forward a.DenyUnlessPermit s.Greedy = refl
-combining_forward a.PermitUnlessDeny s.All = refl
-combining_forward a.PermitUnlessDeny s.Greedy = refl
-combining_forward a.FirstApplicable s.All = refl
-combining_forward a.FirstApplicable s.Greedy = refl
-combining_forward a.OneApplicable s.All = refl
-combining_forward a.OneApplicable s.Greedy = refl
-combining_forward a.WeakConsensus s.All = refl
-combining_forward a.WeakConsensus s.Greedy = refl
-combining_forward a.StrongConsensus s.All = refl
-combining_forward a.StrongConsensus s.Greedy = refl
-
-combining_plain : (x : Algorithm) (y : Strategy) → plain (combining_word (record { algorithm = x; strategy = y })) ≡ true
-combining_plain a.PermitOverrides s.All = refl
-combining_plain a.PermitOverrides s.Greedy = refl
-combining_plain a.DenyOverrides s.All = refl
-combining_plain a.DenyOverrides s.Greedy = refl
-combining_plain a.DenyUnlessPermit s.All = refl
-combining_plain a.DenyUnlessPermit s.Greedy = refl
-combining_plain a.PermitUnlessDeny s.All = refl
-combining_plain a.PermitUnlessDeny s.Greedy = refl
-combining_plain a.FirstApplicable s.All = refl
-combining_plain a.FirstApplicable s.Greedy = refl
-combining_plain a.OneApplicable s.All = refl
-combining_plain a.OneApplicable s.Greedy = refl
-combining_plain a.WeakConsensus s.All = refl
-combining_plain a.WeakConsensus s.Greedy = refl
-combining_plain a.StrongConsensus s.All = refl
-combining_plain a.StrongConsensus s.Greedy = refl
+combining_forward : (x : Algorithm) (y : Strategy) → let c : Combining = record { algorithm = x; strategy = y } in (combining_of (combining_word c) ≡ Some c) × (plain (combining_word c) ≡ true)
+combining_forward a.PermitOverrides s.All = (refl, refl)
+combining_forward a.PermitOverrides s.Greedy = (refl, refl)
+combining_forward a.DenyOverrides s.All = (refl, refl)
+combining_forward a.DenyOverrides s.Greedy = (refl, refl)
+combining_forward a.DenyUnlessPermit s.All = (refl, refl)
+combining_forward a.DenyUnlessPermit s.Greedy = (refl, refl)
+combining_forward a.PermitUnlessDeny s.All = (refl, refl)
+combining_forward a.PermitUnlessDeny s.Greedy = (refl, refl)
+combining_forward a.FirstApplicable s.All = (refl, refl)
+combining_forward a.FirstApplicable s.Greedy = (refl, refl)
+combining_forward a.OneApplicable s.All = (refl, refl)
+combining_forward a.OneApplicable s.Greedy = (refl, refl)
+combining_forward a.WeakConsensus s.All = (refl, refl)
+combining_forward a.WeakConsensus s.Greedy = (refl, refl)
+combining_forward a.StrongConsensus s.All = (refl, refl)
+combining_forward a.StrongConsensus s.Greedy = (refl, refl)
 
 -- a line
 
@@ -159,25 +144,25 @@ module _ (ls : List Line) (ms : Marks) (few : length ls ≤ 256) where
   rule_forward : (effect : Effect) (t : ℕ) (d : Option ℕ) → Fits ls ms (references (l.Rule effect t d)) → (line_of ls ms (fields_for (l.Rule effect t d)) ≡ bind_r (at_field 2 (refer_of family.Expression ls ms (decimal t))) (λ a. bind_r (at_field 3 (may_refer_of family.Duty ls (a).1 (optional d))) (λ b. Ok (l.Rule effect (a).0 b.0, b.1)))) → Reads (l.Rule effect t d)
   rule_forward effect t d f e =
       let r = refer_forward family.Expression ls ms t (may_name family.Duty d) few f in
-      let q = may_forward family.Duty ls (set ms t true) d [] few (subst (Fits ls (set ms t true)) (sym (append-nil (may_name family.Duty d))) r.1) in
+      let q = may_last family.Duty ls (set ms t true) d few r.1 in
       e ∙ (λ i. bind_r (at_field 2 (r.0 i)) (λ a. bind_r (at_field 3 (may_refer_of family.Duty ls (a).1 (optional d))) (λ b. Ok (l.Rule effect (a).0 b.0, b.1))))
-      ∙ (λ i. bind_r (at_field 3 (q.0 i)) (λ b. Ok (l.Rule effect t b.0, b.1)))
+      ∙ (λ i. bind_r (at_field 3 (q i)) (λ b. Ok (l.Rule effect t b.0, b.1)))
 
   duty_forward : (force : Force) (act e : ℕ) (d : Option ℕ) → action_of (decimal act) ≡ Some act → Fits ls ms (references (l.Duty force act e d))
       → (line_of ls ms (fields_for (l.Duty force act e d)) ≡ bind_r (at_field 2 (or_refuse (action_of (decimal act)) why.Misspelt)) (λ a. bind_r (at_field 3 (refer_of family.Expression ls ms (decimal e))) (λ b. bind_r (at_field 4 (may_refer_of family.Duty ls b.1 (optional d))) (λ c. Ok (l.Duty force a b.0 c.0, c.1)))))
       → Reads (l.Duty force act e d)
   duty_forward force act e d w f g =
       let r = refer_forward family.Expression ls ms e (may_name family.Duty d) few f in
-      let q = may_forward family.Duty ls (set ms e true) d [] few (subst (Fits ls (set ms e true)) (sym (append-nil (may_name family.Duty d))) r.1) in
+      let q = may_last family.Duty ls (set ms e true) d few r.1 in
       g ∙ (λ i. bind_r (at_field 2 (or_refuse (w i) why.Misspelt)) (λ a. bind_r (at_field 3 (r.0 i)) (λ b. bind_r (at_field 4 (may_refer_of family.Duty ls b.1 (optional d))) (λ c. Ok (l.Duty force a b.0 c.0, c.1)))))
-      ∙ (λ i. bind_r (at_field 4 (q.0 i)) (λ c. Ok (l.Duty force act e c.0, c.1)))
+      ∙ (λ i. bind_r (at_field 4 (q i)) (λ c. Ok (l.Duty force act e c.0, c.1)))
 
   item_forward : (p : ℕ) (d : Option ℕ) → Fits ls ms (references (l.Item p d)) → Reads (l.Item p d)
   item_forward p d f =
       let r = refer_forward family.Policy ls ms p (may_name family.Item d) few f in
-      let q = may_forward family.Item ls (set ms p true) d [] few (subst (Fits ls (set ms p true)) (sym (append-nil (may_name family.Item d))) r.1) in
+      let q = may_last family.Item ls (set ms p true) d few r.1 in
       (λ i. bind_r (at_field 2 (r.0 i)) (λ a. bind_r (at_field 3 (may_refer_of family.Item ls (a).1 (optional d))) (λ b. Ok (l.Item (a).0 b.0, b.1))))
-      ∙ (λ i. bind_r (at_field 3 (q.0 i)) (λ b. Ok (l.Item p b.0, b.1)))
+      ∙ (λ i. bind_r (at_field 3 (q i)) (λ b. Ok (l.Item p b.0, b.1)))
 
   not_forward : (j : ℕ) → Fits ls ms (references (l.Not j)) → Reads (l.Not j)
   not_forward j f =
@@ -191,11 +176,11 @@ module _ (ls : List Line) (ms : Marks) (few : length ls ≤ 256) where
       let m = set (set ms t true) it true in
       let u = may_forward family.Duty ls m p (may_name family.Duty d) few q.1 in
       let m' = marks_after m (may_name family.Duty p) in
-      let v = may_forward family.Duty ls m' d [] few (subst (Fits ls m') (sym (append-nil (may_name family.Duty d))) u.1) in
+      let v = may_last family.Duty ls m' d few u.1 in
       (λ i. bind_r (at_field 2 (or_refuse (w i) why.UnknownAlgorithm)) (λ a. bind_r (at_field 3 (r.0 i)) (λ b. bind_r (at_field 4 (refer_of family.Item ls b.1 (decimal it))) (λ e. bind_r (at_field 5 (may_refer_of family.Duty ls e.1 (optional p))) (λ g. bind_r (at_field 6 (may_refer_of family.Duty ls g.1 (optional d))) (λ h. Ok (l.Set a b.0 e.0 g.0 h.0, h.1)))))))
       ∙ (λ i. bind_r (at_field 4 (q.0 i)) (λ e. bind_r (at_field 5 (may_refer_of family.Duty ls e.1 (optional p))) (λ g. bind_r (at_field 6 (may_refer_of family.Duty ls g.1 (optional d))) (λ h. Ok (l.Set c t e.0 g.0 h.0, h.1)))))
       ∙ (λ i. bind_r (at_field 5 (u.0 i)) (λ g. bind_r (at_field 6 (may_refer_of family.Duty ls g.1 (optional d))) (λ h. Ok (l.Set c t it g.0 h.0, h.1))))
-      ∙ (λ i. bind_r (at_field 6 (v.0 i)) (λ h. Ok (l.Set c t it p h.0, h.1)))
+      ∙ (λ i. bind_r (at_field 6 (v i)) (λ h. Ok (l.Set c t it p h.0, h.1)))
       ∙ ap (λ ns. Ok (l.Set c t it p d, ns)) (sym (marks_both m (may_name family.Duty p) (may_name family.Duty d)))
 
   attribute_forward : (x : _) → name_of (name_bytes x) ≡ Some x → Reads (l.Attribute x)
@@ -231,7 +216,7 @@ module _ (ls : List Line) (ms : Marks) (few : length ls ≤ 256) where
   line_forward (l.Item p d) w f = item_forward p d f
   line_forward (l.Rule Permit t d) w f = rule_forward Permit t d f refl
   line_forward (l.Rule Deny t d) w f = rule_forward Deny t d f refl
-  line_forward (l.Set c t i p d) w f = set-forward c t i p d (combining_forward c.algorithm c.strategy) f
+  line_forward (l.Set c t i p d) w f = set-forward c t i p d (combining_forward c.algorithm c.strategy).0 f
 
 -- the fields of a line are plain
 
@@ -246,9 +231,7 @@ module _ (top : ℕ) (few : top ≤ 256) where
   optional-plain want (Some k) rs s = (decimal_plain k (omega (arith, s.1)), s.2)
 
   last_plain : (want : Family) (d : Option ℕ) → Within top (may_name want d) → plain (optional d) ≡ true
-  unfolding Within
-  last_plain want None s = refl
-  last_plain want (Some k) s = decimal_plain k (omega (arith, s.1))
+  last_plain want d s = (optional-plain want d [] (subst (Within top) (sym (append-nil (may_name want d))) s)).0
 
 record PlainSix (f : Six) : Type 0 where
   kind : plain f.kind ≡ true
@@ -312,7 +295,7 @@ fields_plain (l.Set g x y u v) w top few s =
     let p = named-plain top few family.Expression x (names family.Item y ++ (may_name family.Duty u ++ may_name family.Duty v)) s in
     let q = named-plain top few family.Item y (may_name family.Duty u ++ may_name family.Duty v) p.1 in
     let r = optional-plain top few family.Duty u (may_name family.Duty v) q.1 in
-    record { kind = refl; a = combining_plain g.algorithm g.strategy; b = p.0; c = q.0; d = r.0; e = last_plain top few family.Duty v r.1 }
+    record { kind = refl; a = (combining_forward g.algorithm g.strategy).1; b = p.0; c = q.0; d = r.0; e = last_plain top few family.Duty v r.1 }
 
 row-over : (f : Six) → PlainSix f → over 10 (row f) ≡ true
 row-over f p =
@@ -376,10 +359,6 @@ sound_front ls zs (r ∷ rs) h =
     (λ i. (ltb 0 r.line && (ltb r.line (length ls + 1) && same_family (family_of (sym e i)) r.family)) && sound_front ls zs rs p.1 i)
     ∙ ap (λ u. u && true) p.0
 
-namings-both : (k : ℕ) (ls zs : List Line) → namings k (ls ++ zs) ≡ namings k ls + namings k zs
-namings-both k [] zs = omega arith
-namings-both k (x ∷ ls) zs = let e = namings-both k ls zs in omega (arith, e)
-
 -- the end of the file
 
 all-marked : (m : ℕ) (bs : Marks) → ((k : ℕ) → k < length bs → get_or bs k false ≡ true) → unmarked_from m bs ≡ None
@@ -437,7 +416,7 @@ body_forward (x ∷ rest) done ms (suc left) n c lm t w =
     body_cons left done ms (row (fields_for x) ++ 10 ∷ rows rest) (omega (arith, line-size))
     ∙ (λ i. bind_r (at_line place (step i)) (λ q. body_of left (done ++ q.0 ∷ []) q.1 q.2))
     ∙ body_forward rest (done ++ x ∷ []) ns left (omega (arith, pushed))
-    (λ k. let p = namings-push k done x in let m = marked_so (length done) (references x) ms (omega (arith, lm)) within fresh k in let h = c k in omega (arith, p, m, h))
+    (λ k. let p = namings-both k done (x ∷ []) in let m = marked_so (length done) (references x) ms (omega (arith, lm)) within fresh k in let h = c k in omega (arith, p, m, h))
     (marks_length (references x) ms ∙ lm) (subst Tree (sym again) t) (subst AllWellSpelt (sym again) w)
     ∙ ap Ok again
 

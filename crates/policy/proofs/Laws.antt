@@ -1,5 +1,5 @@
 -- What holds of every accepted file.
-use Rattle.std.proofs.Common.{◌≡◌, ℕ, zero, suc, ◌+◌, ◌-◌, ◌<◌, ◌≤◌, Bool, true, false, cond, ◌&&◌, eqb, ltb, List, [], ◌∷◌, ◌++◌, length, get_or, take, drop, replicate, Some, None, Ok, codes, Option, sym, refl, ap, ◌∙◌, subst, ⊎_elim, append_assoc, arith, length-drop}
+use Rattle.std.proofs.Common.{◌≡◌, ℕ, zero, suc, ◌+◌, ◌-◌, ◌<◌, ◌≤◌, true, false, cond, ◌&&◌, eqb, ltb, List, [], ◌∷◌, ◌++◌, length, get_or, take, drop, replicate, Some, None, Ok, codes, Option, sym, refl, ap, ◌∙◌, subst, ⊎_elim, append_assoc, arith, length-drop}
 use Rattle.std.proofs.lemmas.List.{length_push, length-take-le, get_or-take, get_or-drop, append-nil, get_or_append_left, get_or_push}
 use Rattle.std.proofs.lemmas.Bool.{and_parts, cases_eq, eqb-false}
 use Rattle.std.proofs.lemmas.Bool.Decides.{nat_tests}
@@ -16,15 +16,15 @@ use Rattle.policy.specs.declared.line.Line.TheVariants as l
 use Rattle.policy.specs.Lines.{family_of, same_family, line_at, Reference, references}
 use Rattle.policy.specs.Check.{Marks, no_marks, step_of, line_of, unmarked_from, all_named, end_of, body_of, header_of, after_header, check_of}
 use Rattle.policy.specs.Spelt.{fields_for, row, rows, spelt}
-use Rattle.policy.specs.Tree.{is_sound, all_sound, times, namings, Tree}
+use Rattle.policy.specs.Tree.{is_sound, all_sound, namings, Tree}
 use Rattle.refusals.proofs.Inversions.{bind_ok, field_bind, ok_same, or_ok, passed, cleared, line_ok}
 use Rattle.policy.specs.WellSpelt.{WellSpelt, AllWellSpelt, Spells}
 use Rattle.policy.proofs.LineLaws.{line_reads}
 use Rattle.policy.proofs.Named.{mark, Named}
 
-pub namings-push : (k : ℕ) (ls : List Line) (l : Line) → namings k (ls ++ l ∷ []) ≡ namings k ls + times k (references l)
-namings-push k [] l = omega arith
-namings-push k (x ∷ ls) l = let e = namings-push k ls l in omega (arith, e)
+pub namings-both : (k : ℕ) (ls zs : List Line) → namings k (ls ++ zs) ≡ namings k ls + namings k zs
+namings-both k [] zs = omega arith
+namings-both k (x ∷ ls) zs = let e = namings-both k ls zs in omega (arith, e)
 
 -- lines above stay what they are
 line_kept : (ls : List Line) (x : Line) (k : ℕ) → 0 < k → k ≤ length ls → line_at (ls ++ x ∷ []) k ≡ line_at ls k
@@ -52,7 +52,7 @@ record Good (ls : List Line) (ms : Marks) : Type 0 where
 
 good_more : (ls : List Line) (ms ns : Marks) (x : Line) → Good ls ms → Named ls ms (references x) ns → WellSpelt x → Good (ls ++ x ∷ []) ns
 good_more ls ms ns x g n w = record {
-  counts = λ k. omega (arith, namings-push k ls x, g.counts k, n.counts k);
+  counts = λ k. omega (arith, namings-both k ls (x ∷ []), g.counts k, n.counts k);
   long = n.long ∙ g.long;
   sound = λ m lo hi. ⊎_elim
       (λ e. let last : line_at (ls ++ x ∷ []) m ≡ x = get_or_push ls x (l.Truth false) (m - 1) (omega arith) in

@@ -17,7 +17,7 @@ pub(crate) fn unused(field: &[u8]) -> Result<(), Cause>
     }
 }
 
-// The last two fields are unused. One function for the last two, three and four would need a list of the fields with their numbers.
+// The last two fields are unused. One function for two, three and four of them would be a loop over a list of fields and numbers: no plainer.
 pub(crate) fn last_two(fields: &Fields) -> Result<(), LineFault>
     ensures { result ≡ last_two (seen fields.now) }
 {

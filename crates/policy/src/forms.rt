@@ -55,6 +55,7 @@ impl Draft {
         Ok(Line::Duty(force, action, argument, earlier))
     }
 
+    // Item and rule lines differ in both families and in what they make: one function would take all three, and be no plainer.
     fn item_line(&mut self, fields: &Fields) -> Result<Line, LineFault>
         ensures value { marking result self.new.named ≡ item_of self.old.lines.items self.old.named (seen fields.now) }
         ensures lines { self.new.lines ≡ self.old.lines }

@@ -1,6 +1,5 @@
-use Rattle.std.proofs.Common.{◌≡◌, ◌-◌, [], ◌∷◌, length, ℕ, ◌+◌, ◌<◌, suc, true, false, cond, Some, None, Ok, Err, not, take, drop, eqb, Bool, List, Result, vec_items, rules, Option, refl, ap, sym, ◌∙◌, arith, add-zero}
+use Rattle.std.proofs.Common.{◌≡◌, ◌-◌, [], ◌∷◌, length, ℕ, ◌+◌, ◌<◌, true, false, cond, Some, None, Ok, not, take, drop, eqb, Bool, List, Result, vec_items, rules, Option, refl, ap, sym, ◌∙◌, arith}
 use Rattle.std.proofs.lemmas.Bool.Decides.{nat_tests}
-use Rattle.std.proofs.lemmas.Grind.{common_steps}
 use denote.Enum.Bare.{sameb}
 use Rattle.policy.specs.contracts.line.Family.{the_type}
 use Rattle.std.specs.List.{position, position_from}

@@ -39,6 +39,7 @@ use Rattle.policy.specs.Tree.{is_sound, all_sound, times, namings, Tree}
 use Rattle.policy.specs.WellSpelt.{WellSpelt, AllWellSpelt, Spells}
 use Rattle.policy.proofs.Laws.{namings-both, unmarked_start}
 use Rattle.policy.proofs.Named.{mark, flagged}
+use Rattle.policy.proofs.Turns.{body_more}
 
 -- the marks after the references rs
 abbrev marks_after : Marks → List Reference → Marks
@@ -386,10 +387,6 @@ end_forward ls ms t c n =
 
 -- all lines
 
-body_cons : (left : ℕ) (ls : List Line) (ms : Marks) (zs : List ℕ) → 0 < length zs → body_of (suc left) ls ms zs ≡ bind_r (at_line (length ls + 1) (step_of ls ms zs)) (λ t. body_of left (ls ++ t.0 ∷ []) t.1 t.2)
-body_cons left ls ms [] h = absurd (omega arith)
-body_cons left ls ms (z ∷ zs) h = refl
-
 body_forward : (rest done : List Line) (ms : Marks) (left : ℕ) → left + length done ≡ 256 → ((k : ℕ) → namings k done ≡ mark ms k) → length ms ≡ 257 → Tree (done ++ rest) → AllWellSpelt (done ++ rest) → body_of left done ms (rows rest) ≡ Ok (done ++ rest)
 body_forward [] done ms left n c lm t w =
     let e = append-nil done in
@@ -413,7 +410,7 @@ body_forward (x ∷ rest) done ms (suc left) n c lm t w =
     let line-size = length-append (row (fields_for x)) (10 ∷ rows rest) in
     let again = append_assoc done (x ∷ []) rest in
     let pushed = length_push done x in
-    body_cons left done ms (row (fields_for x) ++ 10 ∷ rows rest) (omega (arith, line-size))
+    body_more left done ms (row (fields_for x) ++ 10 ∷ rows rest) (omega (arith, line-size))
     ∙ (λ i. bind_r (at_line place (step i)) (λ q. body_of left (done ++ q.0 ∷ []) q.1 q.2))
     ∙ body_forward rest (done ++ x ∷ []) ns left (omega (arith, pushed))
     (λ k. let p = namings-both k done (x ∷ []) in let m = marked_so (length done) (references x) ms (omega (arith, lm)) within fresh k in let h = c k in omega (arith, p, m, h))

@@ -1,7 +1,7 @@
 -- One turn of the recursion over the lines of a file.
-use Rattle.std.proofs.Common.{◌≡◌, ℕ, suc, ◌+◌, ◌-◌, ◌≤◌, false, eqb, List, [], ◌∷◌, ◌++◌, length, Ok, Err, Result, sym, refl, ap, ◌∙◌, arith, Bor}
+use Rattle.std.proofs.Common.{◌≡◌, ℕ, suc, ◌+◌, ◌-◌, ◌<◌, ◌≤◌, false, eqb, List, [], ◌∷◌, ◌++◌, length, Ok, Err, Result, sym, refl, ap, ◌∙◌, arith, Bor}
 use Rattle.std.proofs.lemmas.List.{length_push}
-use Rattle.std.proofs.lemmas.Bool.{true≢false}
+use Rattle.std.proofs.lemmas.Bool.Decides.{nat_tests}
 use Rattle.refusals.specs.Results.{bind_r}
 use Rattle.refusals.specs.Places.{at_line}
 use Rattle.refusals.specs.declared.place.LineFault.{LineFault}
@@ -19,9 +19,8 @@ Step = Line × Marks × List ℕ
 from : ℕ → List Line → Result Step Rejection → Read
 from left ls r = bind_r r (λ s. body_of left (ls ++ s.0 ∷ []) s.1 s.2)
 
-body_more : (left : ℕ) (ls : List Line) (ms : Marks) (xs : List ℕ) → eqb (length xs) 0 ≡ false → body_of (suc left) ls ms xs ≡ from left ls (at_line (length ls + 1) (step_of ls ms xs))
-unfolding from
-body_more left ls ms [] h = absurd (true≢false h)
+pub body_more : (left : ℕ) (ls : List Line) (ms : Marks) (xs : List ℕ) → 0 < length xs → body_of (suc left) ls ms xs ≡ bind_r (at_line (length ls + 1) (step_of ls ms xs)) (λ s. body_of left (ls ++ s.0 ∷ []) s.1 s.2)
+body_more left ls ms [] h = absurd (omega arith)
 body_more left ls ms (x ∷ xs) h = refl
 
 failed : (n : ℕ) (r : Result (Line × Bor (List ℕ)) LineFault) (after : Marks) (e : Rejection) → Err e ≡ at_line n r → Err e ≡ at_line n (stepped r after)
@@ -34,9 +33,11 @@ passed n (Err f) after p h = let z : ◌≡◌ {A = ℕ} 0 1 = cc in absurd (ome
 
 module _ (ls : List Line) (ms : Marks) (xs : List ℕ) (want : Read) (some : eqb (length xs) 0 ≡ false) (inv : body_of (256 - length ls) ls ms xs ≡ want) where
   turned : (n : ℕ) → n ≡ length ls + 1 → n ≤ 256 → from (256 - n) ls (at_line n (step_of ls ms xs)) ≡ want
+  unfolding from
   turned n e h =
+      let filled : 0 < length xs = grind (arith, nat_tests) in
       let z : suc (256 - n) ≡ 256 - length ls = omega arith in
-      ap (λ k. from (256 - n) ls (at_line k (step_of ls ms xs))) e ∙ sym (body_more (256 - n) ls ms xs some) ∙ ap (λ k. body_of k ls ms xs) z ∙ inv
+      ap (λ k. from (256 - n) ls (at_line k (step_of ls ms xs))) e ∙ sym (body_more (256 - n) ls ms xs filled) ∙ ap (λ k. body_of k ls ms xs) z ∙ inv
 
   pub stops : (n : ℕ) → n ≡ length ls + 1 → n ≤ 256 → (r : Result (Line × Bor (List ℕ)) LineFault) (after : Marks) → stepped r after ≡ step_of ls ms xs
       → (e : Rejection) → Err e ≡ at_line n r → Err e ≡ want

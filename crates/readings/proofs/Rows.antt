@@ -14,7 +14,7 @@ use Rattle.refusals.specs.declared.cause.Cause.TheVariants as why
 use Rattle.refusals.specs.declared.place.LineFault.{LineFault}
 use Rattle.refusals.specs.declared.place.Rejection.{Rejection}
 use Rattle.readings.specs.Table.{Table, names_of, cells_from, row_of, rows_of, table_from, table_of}
-use Rattle.readings.specs.Read.{after, as_cells}
+use Rattle.readings.specs.Read.{after, items_as}
 use Rattle.readings.specs.Outcome.{rows_in}
 use Rattle.readings.proofs.Parts.{parts-short}
 use Rattle.refusals.proofs.Inversions.{bind_ok, ok_same, passed}
@@ -79,7 +79,7 @@ unended n false h = refl
 
 -- what the code answered of a row, after the cells before it
 
-row-failed : (n : ℕ) (before : List Val) (o : Result (List Val) LineFault) (r : Result (Unit {0}) LineFault) (e : Rejection) (vs : List Value) → as_cells r vs ≡ after before o → Err e ≡ at_line n r → at_line n o ≡ Err e
+row-failed : (n : ℕ) (before : List Val) (o : Result (List Val) LineFault) (r : Result (Unit {0}) LineFault) (e : Rejection) (vs : List Value) → items_as val_of r vs ≡ after before o → Err e ≡ at_line n r → at_line n o ≡ Err e
 row-failed n before (Ok v) (Ok u) e vs h g = let z : ◌≡◌ {A = ℕ} 0 1 = cc in absurd (omega arith)
 row-failed n before (Ok v) (Err f) e vs h g = let z : ◌≡◌ {A = ℕ} 0 1 = cc in absurd (omega arith)
 row-failed n before (Err f) (Ok u) e vs h g = let z : ◌≡◌ {A = ℕ} 0 1 = cc in absurd (omega arith)
@@ -88,7 +88,7 @@ row-failed n before (Err f) (Err d) e vs h g =
     let is : record { cause = d.cause; line = n; field = d.field } ≡ e = cc in
     ap Err (ap (λ (x : LineFault). record { cause = x.cause; line = n; field = x.field }) same ∙ is)
 
-row-passed : (n : ℕ) (before : List Val) (o : Result (List Val) LineFault) (r : Result (Unit {0}) LineFault) (u : Unit {0}) (vs : List Value) → as_cells r vs ≡ after before o → Ok u ≡ at_line n r
+row-passed : (n : ℕ) (before : List Val) (o : Result (List Val) LineFault) (r : Result (Unit {0}) LineFault) (u : Unit {0}) (vs : List Value) → items_as val_of r vs ≡ after before o → Ok u ≡ at_line n r
     → (v : List Val) × ((o ≡ Ok v) × (map val_of vs ≡ before ++ v))
 row-passed n before (Ok v) (Ok u) w vs h g = (v, (refl, ok_same h))
 row-passed n before (Ok v) (Err f) w vs h g = let z : ◌≡◌ {A = ℕ} 0 1 = cc in absurd (omega arith)
@@ -107,11 +107,11 @@ module _ (width n : ℕ) (cells : List Val) (xs : List ℕ) (want : Rows) (inv :
       sym (after-row (rows_in width n cells) (at_line (n + 1) (row_of width p.0)) (rows_of (n + 1 + 1) width (parts 10 p.1)))
       ∙ ap (after (rows_in width n cells)) (sym (one_row (n + 1) width p.0 (parts 10 p.1) s.0 s.1.0 s.1.1) ∙ ap (rows_of (n + 1) width) (sym (parts-some 10 xs p h))) ∙ inv
 
-  pub stops : (p : List ℕ × List ℕ) → cut_of 10 xs ≡ Some p → (r : Result (Unit {0}) LineFault) (vs : List Value) → as_cells r vs ≡ after cells (row_of width p.0) → (e : Rejection) → Err e ≡ at_line (n + 1) r → Err e ≡ want
+  pub stops : (p : List ℕ × List ℕ) → cut_of 10 xs ≡ Some p → (r : Result (Unit {0}) LineFault) (vs : List Value) → items_as val_of r vs ≡ after cells (row_of width p.0) → (e : Rejection) → Err e ≡ at_line (n + 1) r → Err e ≡ want
   stops p h r vs a e g =
       ap (λ o. bind_r o (λ v. after (rows_in width n cells ++ v ∷ []) (rows_of (n + 1 + 1) width (parts 10 p.1)))) (sym (row-failed (n + 1) cells (row_of width p.0) r e vs a g)) ∙ turned p h
 
-  pub goes : Full width n cells → (p : List ℕ × List ℕ) → cut_of 10 xs ≡ Some p → (r : Result (Unit {0}) LineFault) (vs : List Value) → as_cells r vs ≡ after cells (row_of width p.0) → (u : Unit {0}) → Ok u ≡ at_line (n + 1) r
+  pub goes : Full width n cells → (p : List ℕ × List ℕ) → cut_of 10 xs ≡ Some p → (r : Result (Unit {0}) LineFault) (vs : List Value) → items_as val_of r vs ≡ after cells (row_of width p.0) → (u : Unit {0}) → Ok u ≡ at_line (n + 1) r
       → Full width (n + 1) (map val_of vs) × (after (rows_in width (n + 1) (map val_of vs)) (rows_of (n + 1 + 1) width (parts 10 p.1)) ≡ want)
   goes full p h r vs a u g =
       let s = row-passed (n + 1) cells (row_of width p.0) r u vs a g in

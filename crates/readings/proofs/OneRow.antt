@@ -1,6 +1,6 @@
 -- Where the cells of one row lie, and the names and cells that are left of it.
 use Rattle.std.proofs.Common.{◌≡◌, ℕ, zero, suc, ◌+◌, ◌*◌, ◌<◌, ◌≤◌, min, Bool, true, false, cond, List, [], ◌∷◌, map, length, get_or, take, drop, Some, None, Option, MatchOption, Bor, sym, refl, ap, ◌∙◌, inl, inr, suc-mul, zero-mul, arith}
-use Rattle.std.proofs.lemmas.List.{drop_all, take_all, drop-drop, drop-map, take-map}
+use Rattle.std.proofs.lemmas.List.{drop_all, drop-drop, drop-map, take-map}
 use Rattle.std.proofs.lemmas.Bool.{cases_lt}
 use Rattle.std.specs.List.{find, zip}
 use Rattle.std.specs.Option.{option_map, option_map_or}
@@ -26,9 +26,6 @@ row_at width (suc n) vs (suc i) h =
 -- a bound past the end changes nothing
 pub drop_min : {A : Type 0} (n m : ℕ) (xs : List A) → length xs ≤ m → drop (min n m) xs ≡ drop n xs
 drop_min n m xs h = elim (cases_lt n m) [ inl l ↦ (let e : min n m ≡ n = omega arith in rw e) | inr l ↦ drop_all (min n m) xs (omega arith) ∙ sym (drop_all n xs (omega arith)) ]
-
-pub take_min : {A : Type 0} (n m : ℕ) (xs : List A) → length xs ≤ m → take (min n m) xs ≡ take n xs
-take_min n m xs h = elim (cases_lt n m) [ inl l ↦ (let e : min n m ≡ n = omega arith in rw e) | inr l ↦ take_all (min n m) xs (omega arith) ∙ sym (take_all n xs (omega arith)) ]
 
 -- the cells of a row, where a product past all cells may stop at a top
 pub row-cells : (width n i top start : ℕ) (cells row : List Value) → i < n → length cells ≤ top → start ≡ min (i * width) top → row ≡ take width (drop start cells)

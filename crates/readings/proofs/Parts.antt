@@ -45,7 +45,7 @@ one_less xs p h = let e = ap length (parts-some 32 xs p h) in omega (arith, e)
 -- a part of xs that was read: refused, or an item before those of the other parts
 module _ {A : Type 0} (Reads : Bor (List ℕ) → Bor (List A) → Result A Cause → Type 0) (field : ℕ) (before : List A) (xs : List ℕ) (part : Bor (List ℕ)) (ps : List (List ℕ)) (lies : parts 32 xs ≡ part.now ∷ ps) (seen : Bor (List A)) (sees : seen.now ≡ before) where
   pub part-refused : (x : Result A Cause) → Reads part seen x → (e : LineFault) → Err e ≡ at_field field x → ReadInTurn Reads field before (parts 32 xs) (Err e) before
-  part-refused (Ok v) k e h = let z : ◌≡◌ {A = ℕ} 0 1 = cc in absurd (omega arith)
+  part-refused (Ok v) k e h = cc
   part-refused (Err w) k e h =
       let same : e ≡ record { cause = w; field = field } = cc in
       subst (λ zs. ReadInTurn Reads field before zs (Err e) before) (sym lies) (part, seen, Err w, refl, sees, k, (ap Err same, refl))
@@ -54,7 +54,7 @@ module _ {A : Type 0} (Reads : Bor (List ℕ) → Bor (List A) → Result A Caus
   part-read (Ok w) k v h r items rest =
       let same : v ≡ w = cc in
       subst (λ zs. ReadInTurn Reads field before zs r items) (sym lies) (part, seen, Ok w, refl, sees, k, subst (λ u. ReadInTurn Reads (field + 1) (before ++ u ∷ []) ps r items) same rest)
-  part-read (Err e) k v h r items rest = let z : ◌≡◌ {A = ℕ} 0 1 = cc in absurd (omega arith)
+  part-read (Err e) k v h r items rest = cc
 
 -- what was read in turn is what the parts spell: `want` is that, after the items before
 module _ {A B : Type 0} (meaning : A → B) (spelled : List B → List ℕ → Result B Cause) (want : ℕ → List B → List (List ℕ) → Result (List B) LineFault)

@@ -80,9 +80,9 @@ unended n false h = refl
 -- what the code answered of a row, after the cells before it
 
 row-failed : (n : ℕ) (before : List Val) (o : Result (List Val) LineFault) (r : Result (Unit {0}) LineFault) (e : Rejection) (vs : List Value) → items_as val_of r vs ≡ after before o → Err e ≡ at_line n r → at_line n o ≡ Err e
-row-failed n before (Ok v) (Ok u) e vs h g = let z : ◌≡◌ {A = ℕ} 0 1 = cc in absurd (omega arith)
-row-failed n before (Ok v) (Err f) e vs h g = let z : ◌≡◌ {A = ℕ} 0 1 = cc in absurd (omega arith)
-row-failed n before (Err f) (Ok u) e vs h g = let z : ◌≡◌ {A = ℕ} 0 1 = cc in absurd (omega arith)
+row-failed n before (Ok v) (Ok u) e vs h g = cc
+row-failed n before (Ok v) (Err f) e vs h g = cc
+row-failed n before (Err f) (Ok u) e vs h g = cc
 row-failed n before (Err f) (Err d) e vs h g =
     let same : f ≡ d = cc in
     let is : record { cause = d.cause; line = n; field = d.field } ≡ e = cc in
@@ -91,9 +91,9 @@ row-failed n before (Err f) (Err d) e vs h g =
 row-passed : (n : ℕ) (before : List Val) (o : Result (List Val) LineFault) (r : Result (Unit {0}) LineFault) (u : Unit {0}) (vs : List Value) → items_as val_of r vs ≡ after before o → Ok u ≡ at_line n r
     → (v : List Val) × ((o ≡ Ok v) × (map val_of vs ≡ before ++ v))
 row-passed n before (Ok v) (Ok u) w vs h g = (v, (refl, ok_same h))
-row-passed n before (Ok v) (Err f) w vs h g = let z : ◌≡◌ {A = ℕ} 0 1 = cc in absurd (omega arith)
-row-passed n before (Err f) (Ok u) w vs h g = let z : ◌≡◌ {A = ℕ} 0 1 = cc in absurd (omega arith)
-row-passed n before (Err f) (Err d) w vs h g = let z : ◌≡◌ {A = ℕ} 0 1 = cc in absurd (omega arith)
+row-passed n before (Ok v) (Err f) w vs h g = cc
+row-passed n before (Err f) (Ok u) w vs h g = cc
+row-passed n before (Err f) (Err d) w vs h g = cc
 
 -- the rows so far, of n, lie in `cells`
 module _ (width n : ℕ) (cells : List Val) (xs : List ℕ) (want : Rows) (inv : after (rows_in width n cells) (rows_of (n + 1) width (parts 10 xs)) ≡ want) where

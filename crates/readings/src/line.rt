@@ -16,6 +16,7 @@ pub(crate) fn count_parts(line: &[u8]) -> usize
 }
 
 // Reads the parts of `rest` from `field` on, each with `read`, which also sees the items before it.
+// By recursion, since a `for` over `split` in a generic function gets no proof.
 pub(crate) fn read_parts<T: Drop, F: Fn(&[u8], &[T]) -> Result<T, Cause>>(
     rest: &[u8],
     field: usize,

@@ -22,6 +22,7 @@ fn read_rows(body: &[u8], width: usize, cells: &mut Vec<Value>) -> Result<usize,
     ensures capacity { vec_capacity cells.new ≡ vec_capacity cells.old }
     ensures value { as_rows width result cells.new.items ≡ rows_of 1 width (parts 10 body.now) }
 {
+    // `rows` is the answer, so it is counted here; a `for` over `split` would count too, and test for the last part.
     let mut rows: usize = 0;
     let mut rest = body;
     while let Some((line, after)) = cut(rest, b'\n') {

@@ -8,7 +8,7 @@ use crate::table::Readings;
 use spelling::word::is;
 use values::{Name, Value};
 
-// The names, and their values in the same order.
+// The names, and their values in the same order: two slices lent from the table, since pairs would have to be copied into memory of their own.
 #[derive(Clone, Copy)]
 pub struct Row<'a> {
     pub names: &'a [Name],

@@ -1,7 +1,7 @@
 -- One turn of the recursion over the rows.
-use Rattle.std.proofs.Common.{◌≡◌, ℕ, zero, suc, ◌+◌, ◌≤◌, Bool, true, false, cond, eqb, List, [], ◌∷◌, ◌++◌, map, length, take, drop, Some, None, Ok, Err, Option, Result, sym, refl, ap, ◌∙◌, subst, append_assoc, arith, length-append}
-use Rattle.std.proofs.lemmas.List.{append-nil, take_all, take-append-le, drop-append-le, drop_all}
-use Rattle.std.proofs.lemmas.Bool.{true≢false, eqb-true}
+use Rattle.std.proofs.Common.{◌≡◌, ℕ, zero, suc, ◌+◌, ◌≤◌, Bool, false, cond, eqb, List, [], ◌∷◌, ◌++◌, map, length, take, drop, Some, None, Ok, Err, Option, Result, sym, refl, ap, ◌∙◌, subst, append_assoc, arith, length-append}
+use Rattle.std.proofs.lemmas.List.{take_all, take-append-le, drop-append-le, drop_all}
+use Rattle.std.proofs.lemmas.Bool.{eqb-true}
 use Rattle.values.specs.Values.{Val, val_of}
 use Rattle.values.specs.declared.value.Value.{Value}
 use Rattle.spelling.specs.Cells.{cell_of}
@@ -66,7 +66,7 @@ row-length width xs v h =
 
 one_row : (n width : ℕ) (q : List ℕ) (ps : List (List ℕ)) (r : List ℕ) (rs : List (List ℕ)) → ps ≡ r ∷ rs
     → rows_of n width (q ∷ ps) ≡ bind_r (at_line n (row_of width q)) (λ v. bind_r (rows_of (n + 1) width ps) (λ vs. Ok (v ∷ vs)))
-one_row n width q ps r rs e = subst (λ ys. rows_of n width (q ∷ ys) ≡ bind_r (at_line n (row_of width q)) (λ v. bind_r (rows_of (n + 1) width ys) (λ vs. Ok (v ∷ vs)))) (sym e) refl
+one_row n width q ps r rs e = rw e
 
 after-row : (done : List (List Val)) (o : Result (List Val) Rejection) (r : Rows) → after done (bind_r o (λ v. bind_r r (λ vs. Ok (v ∷ vs)))) ≡ bind_r o (λ v. after (done ++ v ∷ []) r)
 after-row done (Ok v) (Ok vs) = ap Ok (sym (append_assoc done (v ∷ []) vs))
@@ -74,8 +74,7 @@ after-row done (Ok v) (Err e) = refl
 after-row done (Err e) r = refl
 
 unended : (n : ℕ) (t : Bool) → t ≡ false → ◌≡◌ {A = Rows} (cond t (Ok []) (Err (record { cause = why.RowShape; line = n; field = 0 }))) (Err (record { cause = why.RowShape; line = n; field = 0 }))
-unended n true h = absurd (true≢false h)
-unended n false h = refl
+unended n t h = rw h
 
 -- what the code answered of a row, after the cells before it
 
@@ -124,12 +123,6 @@ module _ (width n : ℕ) (cells : List Val) (xs : List ℕ) (want : Rows) (inv :
             ∙ ap (λ o. bind_r (at_line (n + 1) o) (λ v. after (rows_in width n cells ++ v ∷ []) (rows_of (n + 1 + 1) width (parts 10 p.1)))) (sym s.1.0) ∙ turned p h,
       )
 
-  pub ends : length xs ≡ 0 → Ok (rows_in width n cells) ≡ want
-  ends z = sym (at xs z) ∙ inv where
-    at : (ys : List ℕ) → length ys ≡ 0 → after (rows_in width n cells) (rows_of (n + 1) width (parts 10 ys)) ≡ Ok (rows_in width n cells)
-    at [] e = ap Ok (append-nil (rows_in width n cells))
-    at (y ∷ ys) e = absurd (omega arith)
-
 -- the cells of a line have room where the line has
 pub line_room : (xs : List ℕ) (p : List ℕ × List ℕ) → cut_of 10 xs ≡ Some p → length (parts 32 p.0) + length p.1 ≤ length xs
 line_room xs p h =
@@ -147,8 +140,7 @@ table_by (Some p) =
 
 two-lines : (p : List ℕ) (ps : List (List ℕ)) (q : List ℕ) (qs : List (List ℕ)) → ps ≡ q ∷ qs
     → table_from (p ∷ ps) ≡ bind_r (at_line 0 (names_of p)) (λ names. bind_r (rows_of 1 (length names) ps) (λ rows. Ok (record { names = names; rows = rows })))
-two-lines p ps q qs e =
-    subst (λ ys. table_from (p ∷ ys) ≡ bind_r (at_line 0 (names_of p)) (λ names. bind_r (rows_of 1 (length names) ys) (λ rows. Ok (record { names = names; rows = rows })))) (sym e) refl
+two-lines p ps q qs e = rw e
 
 pub table_cut : (xs : List ℕ) → table_of xs ≡ table_by (cut_of 10 xs)
 table_cut xs = at (cut_of 10 xs) refl where

@@ -2,14 +2,13 @@
 use Rattle.std.specs.Prelude.{◌≡◌, ℕ, zero, suc, List, [], ◌∷◌, map, length, take, drop, Ok, Err, vec_items, vec_capacity, Result}
 use Rattle.values.specs.Short.{name_bytes}
 use Rattle.values.specs.Values.{Val, val_of}
-use Rattle.values.specs.declared.short.Name.{Name}
 use Rattle.values.specs.declared.value.Value.{Value}
 use Rattle.refusals.specs.Limits.{small_of}
 use Rattle.refusals.specs.Results.{bind_r}
 use Rattle.refusals.specs.declared.place.Rejection.{Rejection}
+use Rattle.refusals.specs.declared.refused.Refused.{Refused}
 use Rattle.readings.specs.Table.{Table, table_of}
 use Rattle.readings.specs.declared.table.Readings.{Readings}
-use Rattle.readings.specs.declared.table.RefusedTable.{RefusedTable}
 use Rattle.readings.specs.declared.table.TableRoom.{TableRoom}
 
 -- n rows of a width, one after the other
@@ -39,7 +38,7 @@ abbrev pub places_in : Readings → ℕ × ℕ
 places_in r = (vec_capacity r.names, vec_capacity r.cells)
 
 -- an accepted file gives its table, a refused one its fault; the memory keeps its places
-abbrev pub Answers : List ℕ → ℕ × ℕ → Result Readings RefusedTable → Type 0
+abbrev pub Answers : List ℕ → ℕ × ℕ → Result Readings (Refused TableRoom) → Type 0
 Answers file places (Ok r) = (readings_of file ≡ Ok (table_in r)) × (places_in r ≡ places)
 Answers file places (Err e) = (readings_of file ≡ Err e.rejection) × (places_of e.room ≡ places)
 
@@ -48,6 +47,7 @@ abbrev pub as_rows : ℕ → Result ℕ Rejection → List Value → Result (Lis
 as_rows width (Ok n) vs = Ok (rows_in width n (map val_of vs))
 as_rows width (Err e) vs = Err e
 
-abbrev pub as_table : Result ℕ Rejection → List Name → List Value → Result Table Rejection
-as_table (Ok n) xs vs = Ok (record { names = map name_bytes xs; rows = rows_in (length (map name_bytes xs)) n (map val_of vs) })
-as_table (Err e) xs vs = Err e
+-- the table that was read, or the fault
+abbrev pub as_table : Result (Unit {0}) Rejection → Readings → Result Table Rejection
+as_table (Ok u) r = Ok (table_in r)
+as_table (Err e) r = Err e

@@ -8,7 +8,7 @@ use crate::table::Readings;
 use spelling::word::is;
 use values::{Name, Value};
 
-// The names, and their values in the same order.
+// The names, and their values in the same order: two slices lent from the table, since pairs would have to be copied into memory of their own.
 #[derive(Clone, Copy)]
 pub struct Row<'a> {
     pub names: &'a [Name],
@@ -20,12 +20,11 @@ impl Row<'_> {
     pub fn look_up(&self, name: &[u8]) -> Value
         ensures { val_of result ≡ map_in self.now name.now }
     {
-        for (x, cell) in self.names.iter().zip(self.cells) {
-            if is(x.as_bytes(), name) {
-                return *cell;
-            }
-        }
-        Value::Missing
+        self.names
+            .iter()
+            .zip(self.cells)
+            .find(|(x, _)| is(x.as_bytes(), name))
+            .map_or(Value::Missing, |(_, cell)| *cell)
     }
 }
 

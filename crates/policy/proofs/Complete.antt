@@ -6,7 +6,7 @@ use Rattle.std.proofs.lemmas.Bool.Decides.{nat_tests}
 use Rattle.std.specs.Fmt.{signed_decimal}
 use Rattle.std.specs.Str.{bytes_eq}
 use Rattle.values.specs.Options.{bind}
-use Rattle.values.specs.Short.{name_bytes, text_bytes, name_for, text_for}
+use Rattle.values.specs.Short.{name_for, text_for}
 use Rattle.refusals.specs.Results.{bind_r, or_refuse}
 use Rattle.refusals.specs.Places.{at_field, at_line}
 use Rattle.refusals.specs.declared.cause.Cause.TheVariants as why
@@ -184,13 +184,13 @@ module _ (ls : List Line) (ms : Marks) (few : length ls ≤ 256) where
       ∙ (λ i. bind_r (at_field 6 (v i)) (λ h. Ok (l.Set c t it p h.0, h.1)))
       ∙ ap (λ ns. Ok (l.Set c t it p d, ns)) (sym (marks_both m (may_name family.Duty p) (may_name family.Duty d)))
 
-  attribute_forward : (x : _) → name_of (name_bytes x) ≡ Some x → Reads (l.Attribute x)
+  attribute_forward : (x : _) → name_of x ≡ Some x → Reads (l.Attribute x)
   attribute_forward x w = (λ i. marking (bind_r (at_field 2 (or_refuse (w i) why.Misspelt)) (λ y. Ok (l.Attribute y))) ms)
 
   number_forward : (z : ℤ) → number_of (signed_decimal z) ≡ Some z → Reads (l.Number z)
   number_forward z w = (λ i. marking (bind_r (at_field 2 (or_refuse (w i) why.Misspelt)) (λ y. Ok (l.Number y))) ms)
 
-  text_forward : (x : _) → text_of (text_bytes x) ≡ Some x → Reads (l.Text x)
+  text_forward : (x : _) → text_of x ≡ Some x → Reads (l.Text x)
   text_forward x w = (λ i. marking (bind_r (at_field 2 (or_refuse (w i) why.Misspelt)) (λ y. Ok (l.Text y))) ms)
 
   operator_forward : (op : Operator) (j k : ℕ) → Fits ls ms (references (l.Binary op j k)) → Reads (l.Binary op j k)
@@ -276,9 +276,9 @@ effect_plain Deny = refl
 
 fields_plain : (x : Line) → WellSpelt x → (top : ℕ) → top ≤ 256 → Within top (references x) → PlainSix (fields_for x)
 fields_plain (l.Truth v) w top few s = record { kind = truth_plain v; a = refl; b = refl; c = refl; d = refl; e = refl }
-fields_plain (l.Attribute x) w top few s = record { kind = refl; a = name_plain (name_bytes x) x w; b = refl; c = refl; d = refl; e = refl }
+fields_plain (l.Attribute x) w top few s = record { kind = refl; a = name_plain x x w; b = refl; c = refl; d = refl; e = refl }
 fields_plain (l.Number z) w top few s = record { kind = refl; a = number_plain (signed_decimal z) z w; b = refl; c = refl; d = refl; e = refl }
-fields_plain (l.Text x) w top few s = record { kind = refl; a = text_plain (text_bytes x) x w; b = refl; c = refl; d = refl; e = refl }
+fields_plain (l.Text x) w top few s = record { kind = refl; a = text_plain x x w; b = refl; c = refl; d = refl; e = refl }
 fields_plain (l.Not j) w top few s = record { kind = refl; a = (named-plain top few family.Expression j [] s).0; b = refl; c = refl; d = refl; e = refl }
 fields_plain (l.Binary op j k) w top few s =
     let p = named-plain top few family.Expression j (names family.Expression k) s in

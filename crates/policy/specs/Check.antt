@@ -158,7 +158,7 @@ step_of ls ms xs =
     bind_r (at_field 0 (or_refuse (six_of (parts 32 p.0)) why.Shape)) (λ f.
     bind_r (line_of ls ms f) (λ s. Ok (s.0, s.1, p.1))))
 
-abbrev pub stepped : Result (Line × Bor (List ℕ)) LineFault → Marks → Result (Line × Marks × List ℕ) LineFault
+abbrev pub stepped : Result (Line × Bor (List ℕ)) Rejection → Marks → Result (Line × Marks × List ℕ) Rejection
 stepped (Ok p) ms = Ok (p.0, ms, p.1.now)
 stepped (Err e) ms = Err e
 

@@ -2,13 +2,14 @@
 
 ghost use Rattle.std.specs.Prelude.{◌≡◌, ◌-◌, [], length, not, position, vec_capacity};
 ghost use Rattle.values.specs.Options.{each};
+ghost use Rattle.refusals.specs.Places.{at_line};
 ghost use Rattle.policy.specs.Check.{step_of, stepped, end_of, body_of, header_of, check_of, no_marks};
 ghost use Rattle.policy.specs.Outcome.{with_lines};
 
 use crate::draft::Draft;
 use crate::line::{Family, Line};
 use refusals::place::at_line;
-use refusals::{Cause, LineFault, Rejection};
+use refusals::{Cause, Rejection};
 use spelling::cut::{cut, split};
 use spelling::word::is;
 
@@ -28,14 +29,19 @@ fn unmarked(marks: &[bool]) -> Option<usize>
 }
 
 impl Draft {
-    // The first line of `rest`, and what follows it.
-    fn next_line<'a>(&mut self, rest: &'a [u8]) -> Result<(Line, &'a [u8]), LineFault>
-        ensures value { stepped result self.new.named ≡ step_of self.old.lines.items self.old.named rest.now }
+    // The first line of `rest`, whose number is given, and what follows it.
+    fn next_line<'a>(
+        &mut self,
+        rest: &'a [u8],
+        number: usize,
+    ) -> Result<(Line, &'a [u8]), Rejection>
+        ensures value { stepped result self.new.named ≡ at_line number (step_of self.old.lines.items self.old.named rest.now) }
         ensures lines { self.new.lines ≡ self.old.lines }
     {
-        let (text, after) = cut(rest, b'\n').ok_or(Cause::Shape)?;
-        let fields = split(text).ok_or(Cause::Shape)?;
-        let line = self.read_line(&fields)?;
+        let misshapen = Rejection::of_line(Cause::Shape, number);
+        let (text, after) = cut(rest, b'\n').ok_or(misshapen)?;
+        let fields = split(text).ok_or(misshapen)?;
+        let line = at_line(self.read_line(&fields), number)?;
         Ok((line, after))
     }
 
@@ -69,7 +75,11 @@ impl Draft {
             if next > 256 {
                 return Err(Rejection::of_line(Cause::LineCount, next));
             }
-            let (line, after) = at_line(self.next_line(rest), next)?;
+            // No `?`, which gets no proof where the value holds both a line and a reference.
+            let (line, after) = match self.next_line(rest, next) {
+                Ok(read) => read,
+                Err(rejection) => return Err(rejection),
+            };
             self.lines.push_reserved(line);
             rest = after;
         }

@@ -15,5 +15,5 @@ returns-then-stops-clause-decides g c =
     let seen : List Decision = first ∷ map f front in
     let all : seen ++ map f back ≡ first ∷ map f c.args.rest.now = ap (λ ds. first ∷ ds) (sym (map-append f front back) ∙ ap (map f) (take-append-drop c.loop-i.i c.args.rest.now)) in
     let reached = c.loop-i.invariant.reached in
-    stopped_decides w (g.met.G.CombiningAlgorithm.stays c.args.algorithm.now) _ seen (map f back) _ c.is_final.result c.stops.result c.decision-then-stops.result
+    stopped_decides w (g.met.G.CombiningAlgorithm.stays c.args.algorithm.now) c.args.strategy seen (map f back) _ c.is_final.result c.stops.result c.decision-then-stops.result
     all (c.is_final.ensures seen reached) c.stops.ensures c.if-stops.true (c.decision-then-stops.ensures seen reached)

@@ -1,12 +1,16 @@
 -- That a table of entries gives the wording, for all eight algorithms at once.
 use Rattle.std.specs.Prelude.{◌≡◌, Bool, true, false, cond, ◌&&◌, ◌||◌, T, List, [], ◌∷◌, ◌++◌, slice_index_or, refl}
-use Rattle.std.proofs.Common.{sym, ◌∙◌, ap, true≢false}
+use Rattle.std.specs.List.{list_any}
+use Rattle.std.proofs.Common.{sym, ◌∙◌, ap, subst, true≢false, eqb→eq}
 use Rattle.std.proofs.Math.Bool.{or-true}
 use Rattle.spelling.specs.declared.algorithm.Algorithm.{Algorithm}
 use Rattle.spelling.specs.declared.algorithm.Algorithm.TheVariants.{PermitOverrides, DenyOverrides, DenyUnlessPermit, PermitUnlessDeny, FirstApplicable, OneApplicable, WeakConsensus, StrongConsensus}
+use denote.Enum.Declared.{tag_of}
+use denote.Enum.Bare.{sameb, tag_one}
+use Rattle.combining.specs.contracts.decision.Decision.{the_type}
 use Rattle.combining.specs.declared.decision.Decision.{Decision}
 use Rattle.combining.specs.declared.decision.Decision.TheVariants.{Permit, Deny, NotApplicable, Indeterminate}
-use Rattle.combining.specs.Decisions.{same_decision, any, is_indeterminate}
+use Rattle.combining.specs.Decisions.{same_decision, is_indeterminate}
 use Rattle.combining.specs.Wording.{decision_by, is_final_by, wording_of, FinalStays}
 use Rattle.combining.specs.Table.{place, entry, each, agrees}
 
@@ -25,23 +29,35 @@ each_at p h Deny = right (p Permit) (p Deny) (left (p Permit && p Deny) (p NotAp
 each_at p h NotApplicable = right (p Permit && p Deny) (p NotApplicable) (left (p Permit && p Deny && p NotApplicable) (p Indeterminate) h)
 each_at p h Indeterminate = right (p Permit && p Deny && p NotApplicable) (p Indeterminate) h
 
+at_pair : (P : Decision → Decision → Type 0)
+    → P Permit Permit → P Permit Deny → P Permit NotApplicable → P Permit Indeterminate
+    → P Deny Permit → P Deny Deny → P Deny NotApplicable → P Deny Indeterminate
+    → P NotApplicable Permit → P NotApplicable Deny → P NotApplicable NotApplicable → P NotApplicable Indeterminate
+    → P Indeterminate Permit → P Indeterminate Deny → P Indeterminate NotApplicable → P Indeterminate Indeterminate
+    → (a b : Decision) → P a b
+at_pair P pp pd pn pi dp dd dn di np nd nn ni ip id iN ii Permit Permit = pp
+at_pair P pp pd pn pi dp dd dn di np nd nn ni ip id iN ii Permit Deny = pd
+at_pair P pp pd pn pi dp dd dn di np nd nn ni ip id iN ii Permit NotApplicable = pn
+at_pair P pp pd pn pi dp dd dn di np nd nn ni ip id iN ii Permit Indeterminate = pi
+at_pair P pp pd pn pi dp dd dn di np nd nn ni ip id iN ii Deny Permit = dp
+at_pair P pp pd pn pi dp dd dn di np nd nn ni ip id iN ii Deny Deny = dd
+at_pair P pp pd pn pi dp dd dn di np nd nn ni ip id iN ii Deny NotApplicable = dn
+at_pair P pp pd pn pi dp dd dn di np nd nn ni ip id iN ii Deny Indeterminate = di
+at_pair P pp pd pn pi dp dd dn di np nd nn ni ip id iN ii NotApplicable Permit = np
+at_pair P pp pd pn pi dp dd dn di np nd nn ni ip id iN ii NotApplicable Deny = nd
+at_pair P pp pd pn pi dp dd dn di np nd nn ni ip id iN ii NotApplicable NotApplicable = nn
+at_pair P pp pd pn pi dp dd dn di np nd nn ni ip id iN ii NotApplicable Indeterminate = ni
+at_pair P pp pd pn pi dp dd dn di np nd nn ni ip id iN ii Indeterminate Permit = ip
+at_pair P pp pd pn pi dp dd dn di np nd nn ni ip id iN ii Indeterminate Deny = id
+at_pair P pp pd pn pi dp dd dn di np nd nn ni ip id iN ii Indeterminate NotApplicable = iN
+at_pair P pp pd pn pi dp dd dn di np nd nn ni ip id iN ii Indeterminate Indeterminate = ii
+
+-- a comparison of decisions, which compares the places of their variants, is `same_decision`
+pub sameb-same_decision : (a b : Decision) → sameb the_type a b ≡ same_decision a b
+sameb-same_decision a b = at_pair (λ a b. sameb the_type a b ≡ same_decision a b) refl refl refl refl refl refl refl refl refl refl refl refl refl refl refl refl a b
+
 pub same_eq : (a b : Decision) → T (same_decision a b) → a ≡ b
-same_eq Permit Permit h = refl
-same_eq Permit Deny h = absurd h
-same_eq Permit NotApplicable h = absurd h
-same_eq Permit Indeterminate h = absurd h
-same_eq Deny Permit h = absurd h
-same_eq Deny Deny h = refl
-same_eq Deny NotApplicable h = absurd h
-same_eq Deny Indeterminate h = absurd h
-same_eq NotApplicable Permit h = absurd h
-same_eq NotApplicable Deny h = absurd h
-same_eq NotApplicable NotApplicable h = refl
-same_eq NotApplicable Indeterminate h = absurd h
-same_eq Indeterminate Permit h = absurd h
-same_eq Indeterminate Deny h = absurd h
-same_eq Indeterminate NotApplicable h = absurd h
-same_eq Indeterminate Indeterminate h = refl
+same_eq a b h = tag_one the_type tt a b (eqb→eq (tag_of the_type a) (tag_of the_type b) (subst T (sym (sameb-same_decision a b)) h))
 
 -- what the test of a table says of one entry
 pub agrees_at : (a : Algorithm) (t : List (List Decision)) → T (agrees a t) → (s d : Decision) → slice_index_or (slice_index_or t (place s) []) (place d) Permit ≡ entry a s d
@@ -80,29 +96,6 @@ begun a s d = same_decision (entry a s d) (entry a (decision_by a (s ∷ [])) d)
 begun-at : (a : Algorithm) (s d : Decision) → entry a s d ≡ entry a (decision_by a (s ∷ [])) d
 begun-at a s d = same_eq (entry a s d) (entry a (decision_by a (s ∷ [])) d) (rule begun (eight (Tested begun) tt tt tt tt tt tt tt tt) a s d)
 
-at_pair : (P : Decision → Decision → Type 0)
-    → P Permit Permit → P Permit Deny → P Permit NotApplicable → P Permit Indeterminate
-    → P Deny Permit → P Deny Deny → P Deny NotApplicable → P Deny Indeterminate
-    → P NotApplicable Permit → P NotApplicable Deny → P NotApplicable NotApplicable → P NotApplicable Indeterminate
-    → P Indeterminate Permit → P Indeterminate Deny → P Indeterminate NotApplicable → P Indeterminate Indeterminate
-    → (a b : Decision) → P a b
-at_pair P pp pd pn pi dp dd dn di np nd nn ni ip id iN ii Permit Permit = pp
-at_pair P pp pd pn pi dp dd dn di np nd nn ni ip id iN ii Permit Deny = pd
-at_pair P pp pd pn pi dp dd dn di np nd nn ni ip id iN ii Permit NotApplicable = pn
-at_pair P pp pd pn pi dp dd dn di np nd nn ni ip id iN ii Permit Indeterminate = pi
-at_pair P pp pd pn pi dp dd dn di np nd nn ni ip id iN ii Deny Permit = dp
-at_pair P pp pd pn pi dp dd dn di np nd nn ni ip id iN ii Deny Deny = dd
-at_pair P pp pd pn pi dp dd dn di np nd nn ni ip id iN ii Deny NotApplicable = dn
-at_pair P pp pd pn pi dp dd dn di np nd nn ni ip id iN ii Deny Indeterminate = di
-at_pair P pp pd pn pi dp dd dn di np nd nn ni ip id iN ii NotApplicable Permit = np
-at_pair P pp pd pn pi dp dd dn di np nd nn ni ip id iN ii NotApplicable Deny = nd
-at_pair P pp pd pn pi dp dd dn di np nd nn ni ip id iN ii NotApplicable NotApplicable = nn
-at_pair P pp pd pn pi dp dd dn di np nd nn ni ip id iN ii NotApplicable Indeterminate = ni
-at_pair P pp pd pn pi dp dd dn di np nd nn ni ip id iN ii Indeterminate Permit = ip
-at_pair P pp pd pn pi dp dd dn di np nd nn ni ip id iN ii Indeterminate Deny = id
-at_pair P pp pd pn pi dp dd dn di np nd nn ni ip id iN ii Indeterminate NotApplicable = iN
-at_pair P pp pd pn pi dp dd dn di np nd nn ni ip id iN ii Indeterminate Indeterminate = ii
-
 abbrev Merges : Algorithm → List Decision → Decision → Decision → Type 0
 Merges a ds s d = decision_by a (s ∷ d ∷ ds) ≡ decision_by a (entry a s d ∷ ds)
 
@@ -118,10 +111,10 @@ merge DenyUnlessPermit s d ds = at_pair (Merges DenyUnlessPermit ds) refl refl r
 merge PermitUnlessDeny s d ds = at_pair (Merges PermitUnlessDeny ds) refl refl refl refl refl refl refl refl refl refl refl refl refl refl refl refl s d
 merge FirstApplicable s d ds = at_pair (Merges FirstApplicable ds) refl refl refl refl refl refl refl refl refl refl refl refl refl refl refl refl s d
 merge OneApplicable s d ds =
-    let c : (x : Decision) → cond (any is_indeterminate ds || true) Indeterminate x ≡ Indeterminate = clash (any is_indeterminate ds) in
+    let c : (x : Decision) → cond (list_any is_indeterminate ds || true) Indeterminate x ≡ Indeterminate = clash (list_any is_indeterminate ds) in
     at_pair (Merges OneApplicable ds) (c _) (c _) refl refl (c _) (c _) refl refl refl refl refl refl refl refl refl refl s d
 merge WeakConsensus s d ds =
-    let c : (x : Decision) → cond (any is_indeterminate ds || true) Indeterminate x ≡ Indeterminate = clash (any is_indeterminate ds) in
+    let c : (x : Decision) → cond (list_any is_indeterminate ds || true) Indeterminate x ≡ Indeterminate = clash (list_any is_indeterminate ds) in
     at_pair (Merges WeakConsensus ds) refl (c _) refl refl (c _) refl refl refl refl refl refl refl refl refl refl refl s d
 merge StrongConsensus s d ds = at_pair (Merges StrongConsensus ds) refl refl refl refl refl refl refl refl refl refl refl refl refl refl refl refl s d
 

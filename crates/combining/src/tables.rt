@@ -110,16 +110,13 @@ impl CombiningAlgorithm for Algorithm {
     }
 
     fn is_final(&self, state: Decision) -> bool {
-        match (*self, state) {
-            (Algorithm::PermitOverrides | Algorithm::DenyUnlessPermit, Permit) => true,
-            (Algorithm::DenyOverrides | Algorithm::PermitUnlessDeny, Deny) => true,
-            (Algorithm::FirstApplicable, NotApplicable) => false,
-            (Algorithm::FirstApplicable, _) => true,
-            (
-                Algorithm::OneApplicable | Algorithm::WeakConsensus | Algorithm::StrongConsensus,
-                Indeterminate,
-            ) => true,
-            _ => false,
+        match self {
+            Algorithm::PermitOverrides | Algorithm::DenyUnlessPermit => state == Permit,
+            Algorithm::DenyOverrides | Algorithm::PermitUnlessDeny => state == Deny,
+            Algorithm::FirstApplicable => state != NotApplicable,
+            Algorithm::OneApplicable | Algorithm::WeakConsensus | Algorithm::StrongConsensus => {
+                state == Indeterminate
+            }
         }
     }
 

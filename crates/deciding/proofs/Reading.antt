@@ -1,8 +1,7 @@
 -- Readings looked up line by line agree with the map that they were looked up in.
-use Rattle.std.proofs.Common.{◌≡◌, ℕ, ◌+◌, ◌-◌, ◌<◌, false, List, [], ◌∷◌, ◌++◌, map, length, get_or, take, sym, refl, ap, ◌∙◌, arith}
-use Rattle.std.proofs.lemmas.List.{get_or-map, map-append, take_more}
-use Rattle.values.specs.Values.{Val, missing, val_of}
-use Rattle.values.specs.declared.value.Value.{Value}
+use Rattle.std.proofs.Common.{◌≡◌, ◌-◌, ◌<◌, false, List, map, length, get_or, sym, refl, ap, ◌∙◌, arith}
+use Rattle.std.proofs.lemmas.List.{get_or-map}
+use Rattle.values.specs.Values.{Val, missing}
 use Rattle.policy.specs.declared.line.Line.{Line}
 use Rattle.policy.specs.declared.line.Line.TheVariants as l
 use Rattle.policy.specs.Lines.{line_at}
@@ -27,9 +26,3 @@ looked_up ls vs m e n lo hi =
     let h : n - 1 < length ls = omega arith in
     let g : read_at vs n ≡ wanted m (line_at ls n) missing = ap (λ us. get_or us (n - 1) missing) e ∙ get_or-map (λ x. wanted m x missing) ls (n - 1) (l.Truth false) missing h in
     g ∙ once_wanted m (line_at ls n) ∙ ap (wanted m (line_at ls n)) (sym g)
-
-pub look_up_more : (m : Map) (ls : List Line) (vs : List Value) (i : ℕ) (v : Value) → i < length ls → map val_of vs ≡ map (λ x. wanted m x missing) (take i ls) → val_of v ≡ wanted m (get_or ls i (l.Truth false)) missing
-    → map val_of (vs ++ v ∷ []) ≡ map (λ x. wanted m x missing) (take (i + 1) ls)
-look_up_more m ls vs i v h e q =
-    map-append val_of vs (v ∷ []) ∙ ap (λ us. us ++ val_of v ∷ []) e ∙ ap (λ y. map (λ x. wanted m x missing) (take i ls) ++ y ∷ []) q
-    ∙ sym (ap (map (λ x. wanted m x missing)) (take_more ls i (l.Truth false) h) ∙ map-append (λ x. wanted m x missing) (take i ls) (get_or ls i (l.Truth false) ∷ []))

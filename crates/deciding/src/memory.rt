@@ -1,0 +1,29 @@
+// The memory that lines are worked in.
+
+ghost use Rattle.std.specs.Prelude.{◌≤◌, vec_capacity};
+
+use crate::kept::Kept;
+use policy::LineNumber;
+use std::alloc::{AllocError, Global};
+
+// A response for each line, by its number; the line numbers of their duties; and the children of the set that is being worked.
+#[derive(Drop)]
+pub struct Memory {
+    pub responses: [Kept; 257],
+    pub numbers: Vec<LineNumber>,
+    pub children: Vec<Kept>,
+    ghost number_places: { 65536 ≤ vec_capacity numbers },
+    ghost child_places: { 256 ≤ vec_capacity children },
+}
+
+impl Memory {
+    pub(crate) fn new(heap: Global) -> Result<Memory, AllocError> {
+        let numbers = Vec::with_capacity(heap, 65536)?;
+        let children = Vec::with_capacity(heap, 256)?;
+        Ok(Memory {
+            responses: [Kept::NONE; 257],
+            numbers,
+            children,
+        })
+    }
+}

@@ -2,4 +2,3 @@ pub mod Meaning
 pub mod Adding
 pub mod Spans
 pub mod Closing
-pub mod Reading

@@ -171,13 +171,8 @@ module _ (known : Known) (n : ℕ) (lo : 0 < n) (hi : n ≤ size known) where
       by (l.Rule e t d) r s = absurd (r e t d refl)
       by (l.Set c t i p d) r s = absurd (s c t i p d refl)
 
-  pub rule_within : {e : Effect} {t : ℕ} {d : Option ℕ} → l.Rule e t d ≡ line_of known n → (0 < t) × (t < n) × Within (size known) d
-  rule_within {e} {t} {d} f =
-      let r = rests (known_leaf (map val_of known.readings.now)) known.lines.now known.tree.above n lo hi (sym f) in
-      (r.0, r.1, may_within known n _ d hi r.2)
-
-  pub set-within : {c : Combining} {t i : ℕ} {p d : Option ℕ} → l.Set c t i p d ≡ line_of known n → (0 < t) × (t < n) × (0 < i) × (i < n) × Within (size known) p × Within (size known) d
+  pub set-within : {c : Combining} {t i : ℕ} {p d : Option ℕ} → l.Set c t i p d ≡ line_of known n → Within (size known) p × Within (size known) d
   set-within {c} {t} {i} {p} {d} f =
       let r = rests (known_leaf (map val_of known.readings.now)) known.lines.now known.tree.above n lo hi (sym f) in
       let b = below-append n (may_name _ p) (may_name _ d) r.2.2 in
-      (r.0, r.1, r.2.0, r.2.1, may_within known n _ p hi b.0, may_within known n _ d hi b.1)
+      (may_within known n _ p hi b.0, may_within known n _ d hi b.1)

@@ -2,7 +2,7 @@
 use Rattle.std.proofs.Common.{◌≡◌, ℕ, ◌+◌, ◌-◌, ◌<◌, ◌≤◌, Bool, true, false, cond, ◌⊎◌, List, [], ◌∷◌, ◌++◌, map, length, get_or, take, drop, set, vec_items, vec_len, Vec, sym, refl, ap, ◌∙◌, subst, inl, inr, append_assoc, arith, length-append, length-drop, drop-cons, add-one, get_or-set_other, get_or-set_same}
 use lib.Seq.{drop-append_seam}
 use Rattle.std.proofs.lemmas.Bool.{cases_eq}
-use Rattle.std.proofs.lemmas.List.{map-append, take-append-le, drop-append-le, length-map, length-take-le, take_all, take-map, drop-map, take_more, drop_all, append-nil, take-append-drop, get_or-drop, get_or_append_left}
+use Rattle.std.proofs.lemmas.List.{map-append, take-append-le, drop-append-le, length-map, length-take-le, take_all, take-map, drop-map, take_more, take-append-drop, get_or-drop, get_or_append_left}
 use Rattle.std.proofs.lemmas.List.Elements.{All-nil, All-push}
 use Rattle.combining.specs.declared.decision.Decision.{Decision}
 use Rattle.combining.specs.Decisions.{same_decision}
@@ -163,19 +163,6 @@ module _ (t : Taken) (i : ℕ) (os ws : List ℕ) (h : i < length t.children.now
         by true e = let k = ap length (taken_is true e) in let l : length (span os ++ taken_rest t (i + 1) os) ≡ length (span os) + length (taken_rest t (i + 1) os) = length-append (span os) (taken_rest t (i + 1) os) in omega (arith, k, l)
         by false e = let k = ap length (taken_is false e) in omega (arith, k)
 
-pub taking_none : (t : Taken) (os : List ℕ) → Taking t 0 os os
-taking_none t os = record { items = refl; grown = take_all (length os) os (omega arith) }
-
-pub taking_end : (t : Taken) (i : ℕ) (os ws : List ℕ) → length t.children.now ≤ i → Taking t i os ws → ws ≡ os ++ taken_rest t 0 os
-taking_end t i os ws h a = sym (ap (λ xs. ws ++ xs) none ∙ append-nil ws) ∙ a.items
-  where
-    empty : (j : Bool) → duties_by {D = ℕ} j t.decision [] ≡ []
-    empty true = refl
-    empty false = refl
-
-    none : taken_rest t i os ≡ []
-    none = ap (λ ks. duties_by t.joins t.decision (map (response_in os) ks)) (drop_all i t.children.now h) ∙ empty t.joins
-
 -- numbers may be read as duties before or after they are taken
 
 pub span_read : {A B : Type 0} (f : A → B) (ks : List A) (k : Kept) → map f (take k.count (drop k.start ks)) ≡ take k.count (drop k.start (map f ks))
@@ -205,11 +192,6 @@ taken-read f false d os ks = first_read f d os ks
 
 pub mean_none : (ks : List Kept) (os : List Due) → ks ≡ [] → MeanAll ks os []
 mean_none ks os e = mean_as e refl (record { are = refl; within = All-nil (λ (j : Kept). j.start + j.count ≤ length os) })
-
--- one more element is the image of one more
-pub mapped_more : {A B C : Type 0} (f : A → B) (g : C → B) (ks : List A) (ws : List C) (i : ℕ) (y : C) (d : A) → i < length ks → map g ws ≡ map f (take i ks) → g y ≡ f (get_or ks i d) → map g (ws ++ y ∷ []) ≡ map f (take (i + 1) ks)
-mapped_more f g ks ws i y d h e q =
-    map-append g ws (y ∷ []) ∙ ap (λ t. t ++ g y ∷ []) e ∙ ap (λ x. map f (take i ks) ++ x ∷ []) q ∙ sym (ap (map f) (take_more ks i d h) ∙ map-append f (take i ks) (get_or ks i d ∷ []))
 
 part_new : (os xs ws : List Due) (s n : ℕ) → ws ≡ os ++ xs → s ≡ length os → n ≡ length xs → take n (drop s ws) ≡ xs
 part_new os xs ws s n e hs hn =

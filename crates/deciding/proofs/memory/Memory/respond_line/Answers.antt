@@ -5,7 +5,7 @@ use Rattle.trees.specs.Policies.{on_target, appended, bare, decision_for}
 use Rattle.trees.specs.Known.{nothing}
 use Rattle.deciding.specs.Known.{duties_of}
 use Rattle.deciding.specs.Kept.{set_response}
-use Rattle.deciding.proofs.Meaning.{rule_is, set-line_is, no_response_lem}
+use Rattle.deciding.proofs.Meaning.{rule_is, set-line_is, set-within, no_response_lem}
 use Rattle.deciding.proofs.Adding.{responds_as, responds_bare, room_as}
 use Rattle.deciding.proofs.memory.Memory.respond_line.Goals as goal
 
@@ -16,6 +16,12 @@ close-requires-clause-room c =
     room_as c.args.self.now.numbers _ _ (ap (λ (r : Response Due). r.duties) (rule_is known c.args.number c.requires.low c.requires.high c.in-Rule.ensures
     ∙ ap (λ v. on_target v x) (sym c.value-target.ensures) ∙ c.in-None.ensures x
     ∙ ap (λ d. appended nothing (duties_of known c.in-Rule.duty) (bare d)) (sym c.effect_decision.ensures))) c.requires.room
+
+pub respond_set-requires-clause-permits : goal.respond_set-requires-clause-permits
+respond_set-requires-clause-permits c = (set-within c.args.known.now c.args.number c.requires.low c.requires.high c.in-Set.ensures).0
+
+pub respond_set-requires-clause-denies : goal.respond_set-requires-clause-denies
+respond_set-requires-clause-denies c = (set-within c.args.known.now c.args.number c.requires.low c.requires.high c.in-Set.ensures).1
 
 pub respond_set-requires-clause-room : goal.respond_set-requires-clause-room
 respond_set-requires-clause-room c =

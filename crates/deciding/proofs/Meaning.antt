@@ -1,7 +1,7 @@
 -- What the parts of a policy's lines mean, once the readings are put in.
-use Rattle.std.proofs.Common.{◌≡◌, ℕ, ◌<◌, ◌≤◌, ◌&&◌, List, [], ◌∷◌, ◌++◌, Some, None, Option, sym, refl, ap, ◌∙◌, map, arith}
+use Rattle.std.proofs.Common.{◌≡◌, ℕ, ◌+◌, ◌<◌, ◌≤◌, ◌&&◌, List, [], ◌∷◌, ◌++◌, Some, None, Option, sym, refl, ap, ◌∙◌, map, arith}
 use Rattle.spelling.specs.declared.algorithm.Combining.{Combining}
-use Rattle.values.specs.Values.{error, val_of}
+use Rattle.values.specs.Values.{Val, error, val_of}
 use Rattle.policy.specs.declared.line.Line.{Line}
 use Rattle.policy.specs.declared.line.Line.TheVariants as l
 use Rattle.policy.specs.declared.line.Operator.{Operator}
@@ -10,6 +10,7 @@ use Rattle.policy.specs.declared.line.Force.TheVariants.{May}
 use Rattle.policy.specs.declared.line.Effect.{Effect}
 use Rattle.policy.specs.declared.line.Family.{Family}
 use Rattle.policy.specs.Lines.{may_name}
+use Rattle.combining.specs.declared.decision.Decision.{Decision}
 use Rattle.combining.specs.declared.decision.Decision.TheVariants.{Indeterminate}
 use Rattle.trees.specs.Expressions.{value_of}
 use Rattle.combining.specs.Combined.{Response}
@@ -20,11 +21,16 @@ use Rattle.trees.specs.Known.{known as known_leaf, nothing}
 use Rattle.trees.proofs.Grown.{grown, rests, below, below-append}
 use Rattle.deciding.specs.declared.known.Known.{Known}
 use Rattle.deciding.specs.Known.{size, line_of, parts, value_at, duties_of, items_at, responses_of, response_at, due, due_from, due_at, Within}
-use Rattle.deciding.specs.Kept.{set_response}
+use Rattle.deciding.specs.Kept.{set_response, ended_by}
 
 -- the part of line n, which is x
 abbrev part_from : Known → ℕ → Line → Part
 part_from known n x = part_for (known_leaf (map val_of known.readings.now)) n (parts known) x
+
+-- how high a chain of lines is that ends there, at most
+abbrev pub height : Option ℕ → ℕ
+height None = 0
+height (Some k) = k + 1
 
 -- the responses of the items before one
 abbrev pub earlier_responses : Known → Option ℕ → List (Response Due)
@@ -144,16 +150,21 @@ module _ (known : Known) (n : ℕ) (lo : 0 < n) (hi : n ≤ size known) where
       let r = rests (known_leaf (map val_of known.readings.now)) known.lines.now known.tree.above n lo hi (sym (ap (l.Item p) (sym q) ∙ f)) in
       (r.2.0, r.2.1)
 
-  -- the response of line n's policy
-  pub rule_is : {e : Effect} {t : ℕ} {d : Option ℕ} → l.Rule e t d ≡ line_of known n
-      → response_at known n ≡ on_target (value_at known t) (appended nothing (duties_of known d) (bare (decision_for e)))
-  unfolding respond
-  rule_is f = ap (λ x. respond nothing (as_policy x)) (part_is _ f)
+  -- the response of line n's policy, by what its target's value decides
+  module _ {v : Val} (o : Option Decision) (ends : (x : Response Due) → on_target v x ≡ ended_by o x) where
+    pub rule_is : {e : Effect} {t : ℕ} {d : Option ℕ} → l.Rule e t d ≡ line_of known n → v ≡ value_at known t
+        → response_at known n ≡ ended_by o (appended nothing (duties_of known d) (bare (decision_for e)))
+    unfolding respond
+    rule_is {e} {t} {d} f q =
+        let x : Response Due = appended nothing (duties_of known d) (bare (decision_for e)) in
+        ap (λ y. respond nothing (as_policy y)) (part_is _ f) ∙ ap (λ w. on_target w x) (sym q) ∙ ends x
 
-  pub set-line_is : {c : Combining} {t i : ℕ} {p d : Option ℕ} → l.Set c t i p d ≡ line_of known n
-      → response_at known n ≡ on_target (value_at known t) (set_response known c i (record { on_permit = p; on_deny = d }))
-  unfolding respond
-  set-line_is f = ap (λ x. respond nothing (as_policy x)) (part_is _ f)
+    pub set-line_is : {c : Combining} {t i : ℕ} {p d : Option ℕ} → l.Set c t i p d ≡ line_of known n → v ≡ value_at known t
+        → response_at known n ≡ ended_by o (set_response known c i (record { on_permit = p; on_deny = d }))
+    unfolding respond
+    set-line_is {c} {t} {i} {p} {d} f q =
+        let x : Response Due = set_response known c i (record { on_permit = p; on_deny = d }) in
+        ap (λ y. respond nothing (as_policy y)) (part_is _ f) ∙ ap (λ w. on_target w x) (sym q) ∙ ends x
 
   pub no_response_lem : (x : Line) → x ≡ line_of known n → ((e : Effect) (t : ℕ) (d : Option ℕ) → x ≡ l.Rule e t d → ⊥) → ((c : Combining) (t i : ℕ) (p d : Option ℕ) → x ≡ l.Set c t i p d → ⊥) → response_at known n ≡ bare Indeterminate
   unfolding respond

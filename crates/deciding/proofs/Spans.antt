@@ -6,7 +6,7 @@ use Rattle.std.proofs.lemmas.List.{map-append, take-append-le, drop-append-le, l
 use Rattle.std.proofs.lemmas.List.Elements.{All-nil, All-push}
 use Rattle.combining.specs.declared.decision.Decision.{Decision}
 use Rattle.combining.specs.Decisions.{same_decision}
-use Rattle.combining.specs.Combined.{Response, joined, first_taken}
+use Rattle.combining.specs.Combined.{Response, joined}
 use Rattle.trees.specs.Duties.{Due}
 use Rattle.deciding.specs.declared.known.Known.{Known}
 use Rattle.deciding.specs.declared.kept.Kept.{Kept}
@@ -168,27 +168,17 @@ module _ (t : Taken) (i : ℕ) (os ws : List ℕ) (h : i < length t.children.now
 pub span_read : {A B : Type 0} (f : A → B) (ks : List A) (k : Kept) → map f (take k.count (drop k.start ks)) ≡ take k.count (drop k.start (map f ks))
 span_read f ks k = sym (take-map f k.count (drop k.start ks)) ∙ ap (take k.count) (sym (drop-map f k.start ks))
 
-joined-read : {A B : Type 0} (f : A → B) (d : Decision) (os : List A) (ks : List Kept) → map f (joined d (map (response_in os) ks)) ≡ joined d (map (response_in (map f os)) ks)
-joined-read f d os [] = refl
-joined-read f d os (k ∷ ks) = by (same_decision d k.decision) (span_read f os k) (joined-read f d os ks)
-  where
-    by : (b : Bool) → map f (take k.count (drop k.start os)) ≡ take k.count (drop k.start (map f os)) → map f (joined d (map (response_in os) ks)) ≡ joined d (map (response_in (map f os)) ks)
-        → map f (cond b (take k.count (drop k.start os)) [] ++ joined d (map (response_in os) ks)) ≡ cond b (take k.count (drop k.start (map f os))) [] ++ joined d (map (response_in (map f os)) ks)
-    by true e g = map-append f (take k.count (drop k.start os)) (joined d (map (response_in os) ks)) ∙ cc
-    by false e g = g
-
-first_read : {A B : Type 0} (f : A → B) (d : Decision) (os : List A) (ks : List Kept) → map f (first_taken d (map (response_in os) ks)) ≡ first_taken d (map (response_in (map f os)) ks)
-first_read f d os [] = refl
-first_read f d os (k ∷ ks) = by (same_decision d k.decision) (span_read f os k) (first_read f d os ks)
-  where
-    by : (b : Bool) → map f (take k.count (drop k.start os)) ≡ take k.count (drop k.start (map f os)) → map f (first_taken d (map (response_in os) ks)) ≡ first_taken d (map (response_in (map f os)) ks)
-        → map f (cond b (take k.count (drop k.start os)) (first_taken d (map (response_in os) ks))) ≡ cond b (take k.count (drop k.start (map f os))) (first_taken d (map (response_in (map f os)) ks))
-    by true e g = e
-    by false e g = g
-
 pub taken-read : {A B : Type 0} (f : A → B) (j : Bool) (d : Decision) (os : List A) (ks : List Kept) → map f (duties_by j d (map (response_in os) ks)) ≡ duties_by j d (map (response_in (map f os)) ks)
-taken-read f true d os ks = joined-read f d os ks
-taken-read f false d os ks = first_read f d os ks
+taken-read f true d os [] = refl
+taken-read f false d os [] = refl
+taken-read {A} {B} f j d os (k ∷ ks) =
+    ap (map f) (taken_cons j d (response_in os k) (map (response_in os) ks)) ∙ by (same_decision d k.decision) j _ _ (span_read f os k) (taken-read f j d os ks)
+    ∙ sym (taken_cons j d (response_in (map f os) k) (map (response_in (map f os)) ks))
+  where
+    by : (b i : Bool) (xs zs : List A) {ys ws : List B} → map f xs ≡ ys → map f zs ≡ ws → map f (cond b (cond i (xs ++ zs) xs) zs) ≡ cond b (cond i (ys ++ ws) ys) ws
+    by true true xs zs e g = map-append f xs zs ∙ cc
+    by true false xs zs e g = e
+    by false i xs zs e g = g
 
 pub mean_none : (ks : List Kept) (os : List Due) → ks ≡ [] → MeanAll ks os []
 mean_none ks os e = mean_as e refl (record { are = refl; within = All-nil (λ (j : Kept). j.start + j.count ≤ length os) })

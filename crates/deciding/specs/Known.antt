@@ -1,5 +1,5 @@
 -- An accepted policy's lines and what they read: the parts that they stand for.
-use Rattle.std.specs.Prelude.{ℕ, ◌+◌, ◌<◌, ◌≤◌, List, ◌∷◌, map, length, Some, None, Option}
+use Rattle.std.specs.Prelude.{ℕ, ◌<◌, ◌≤◌, List, ◌∷◌, map, length, Some, None, Option}
 use Rattle.values.specs.Values.{Val, error, val_of}
 use Rattle.policy.specs.declared.line.Line.{Line}
 use Rattle.policy.specs.declared.line.Line.TheVariants as l
@@ -69,8 +69,3 @@ read_dues known ns = map (due_at known) ns
 abbrev pub Within : ℕ → Option ℕ → Type 0
 Within n None = Unit {0}
 Within n (Some k) = (0 < k) × (k ≤ n)
-
--- 0 for none: what a chain that ends there is longer than
-abbrev pub height : Option ℕ → ℕ
-height None = 0
-height (Some k) = k + 1

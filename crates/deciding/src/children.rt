@@ -9,6 +9,7 @@ ghost use Rattle.deciding.specs.Kept.{KeptTo, MeanAll, response_in, taken_from, 
 
 use crate::kept::Kept;
 use crate::known::Known;
+use crate::memory::Responses;
 use crate::taken::Taken;
 use combining::CombiningAlgorithm;
 use combining::combine::combine;
@@ -19,13 +20,12 @@ use spelling::algorithm::Combining;
 // A recursion, since each item names the one before it.
 pub(crate) fn list_children(
     known: &Known,
-    responses: &[Kept],
+    responses: &Responses,
     last: LineNumber,
     children: &mut Vec<Kept>,
 )
     requires low { 0 < last }
     requires high { last ≤ size known.now }
-    requires long { size known.now < length responses.now }
     requires room { vec_len children.old + last ≤ vec_capacity children.old }
     ensures children { (os : List Due) (rs : List (Response Due)) → KeptTo last known.now responses.now os → MeanAll children.old.items os rs → MeanAll children.new.items os (rs ++ responses_of (items_at known.now last)) }
     ensures len { vec_len children.new ≤ vec_len children.old + last }

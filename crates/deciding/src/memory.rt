@@ -6,10 +6,13 @@ use crate::kept::Kept;
 use policy::LineNumber;
 use std::alloc::{AllocError, Global};
 
-// A response for each line, by its number; the line numbers of their duties; and the children of the set that is being worked.
+// A response for each line, by its number; lines are counted from 1, so the first stands for none.
+pub type Responses = [Kept; 257];
+
+// The responses, the line numbers of their duties, and the children of the set that is being worked.
 #[derive(Drop)]
 pub struct Memory {
-    pub responses: [Kept; 257],
+    pub responses: Responses,
     pub numbers: Vec<LineNumber>,
     pub children: Vec<Kept>,
     ghost number_places: { 65536 ≤ vec_capacity numbers },

@@ -89,8 +89,7 @@ impl Taken<'_> {
         match self.decision {
             Decision::Permit => self.close(known, own.on_permit, numbers),
             Decision::Deny => self.close(known, own.on_deny, numbers),
-            Decision::NotApplicable => Decision::NotApplicable,
-            Decision::Indeterminate => Decision::Indeterminate,
+            Decision::NotApplicable | Decision::Indeterminate => self.decision,
         }
     }
 }

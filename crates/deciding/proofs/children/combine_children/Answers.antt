@@ -1,6 +1,4 @@
-use Rattle.std.proofs.Common.{◌+◌, ◌≤◌, map, take, sym, ap, ◌∙◌}
-use Rattle.std.proofs.lemmas.List.Elements.{All-take}
-use Rattle.deciding.specs.declared.kept.Kept.{Kept}
+use Rattle.std.proofs.Common.{map, take, sym, ap, ◌∙◌}
 use Rattle.combining.specs.Wording.{joins_by}
 use Rattle.deciding.specs.Kept.{response_in, unset, duties_by}
 use Rattle.deciding.proofs.Spans.{first_and_others}
@@ -16,6 +14,3 @@ returns-clause-combines c = λ os r rs e.
     combined-is c.args.combining os _ _ r rs v d (ap (map (response_in os)) (sym s) ∙ e) c.combine-combined.ensures.visits c.combine-combined.ensures.visited
     ∙ ap (λ xs. record { decision = d; duties = duties_by (joins_by c.args.combining.algorithm) d (map (response_in os) (take v xs)) }) (sym s)
     ∙ ap (λ j. record { decision = d; duties = duties_by j d (map (response_in os) (take v ks)) }) (sym c.joins.ensures)
-
-pub returns-clause-within : goal.returns-clause-within
-returns-clause-within c = λ n a. All-take (λ (k : Kept). k.start + k.count ≤ n) c.combine-combined.result.visited c.args.children.now a

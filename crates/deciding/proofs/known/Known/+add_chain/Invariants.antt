@@ -1,4 +1,4 @@
-use Rattle.deciding.specs.Known.{height}
+use Rattle.deciding.proofs.Meaning.{height}
 use Rattle.deciding.proofs.known.Known.+add_chain.Given as goal
 
 abbrev pub decreases-add_chain : goal.decreases-add_chain

@@ -1,4 +1,4 @@
-use Rattle.deciding.specs.Known.{height}
+use Rattle.deciding.proofs.Meaning.{height}
 use Rattle.deciding.proofs.known.Known.+all_fulfilled.Given as goal
 
 abbrev pub decreases-all_fulfilled : goal.decreases-all_fulfilled

@@ -1,5 +1,5 @@
 -- A set's combined response, and a policy's own duties after it.
-use Rattle.std.proofs.Common.{◌≡◌, ℕ, true, false, cond, List, [], ◌∷◌, ◌++◌, map, take, ap, ◌∙◌, sym}
+use Rattle.std.proofs.Common.{◌≡◌, ℕ, true, cond, List, [], ◌∷◌, ◌++◌, map, take, ap, ◌∙◌, sym}
 use Rattle.std.proofs.lemmas.List.{take-map}
 use Rattle.std.proofs.lemmas.Simd.{map-map}
 use Rattle.spelling.specs.declared.algorithm.Combining.{Combining}
@@ -37,9 +37,6 @@ combined-is c os k ks r rs v d e ev ed =
 module _ (m : Map) (ds : Duties) (r : Response Due) where
   pub appended-all : all_fulfilled m ds ≡ true → appended m ds r ≡ record { decision = r.decision; duties = r.duties ++ dues_of m ds }
   appended-all h = let R : Response Due = record { decision = r.decision; duties = r.duties ++ dues_of m ds } in ap (λ b. cond b R (bare Indeterminate)) h
-
-  pub appended-none : all_fulfilled m ds ≡ false → appended m ds r ≡ bare Indeterminate
-  appended-none h = let R : Response Due = record { decision = r.decision; duties = r.duties ++ dues_of m ds } in ap (λ b. cond b R (bare Indeterminate)) h
 
 -- what is taken from the children is the combined response, and closed it is the set's
 pub set_is : (known : Known) (c : Combining) (i : ℕ) (own : OwnDuties) (t : Taken) (os : List Due) → combined_by c (first nothing (items_at known i)) (rest nothing (items_at known i)) ≡ taken_from t os

@@ -6,9 +6,6 @@ use Rattle.deciding.specs.Known.{size}
 use Rattle.deciding.proofs.Spans.{kept_next}
 use Rattle.deciding.proofs.memory.Memory.respond_all.Goals as goal
 
-pub respond_line-decision-requires-clause-kept : goal.respond_line-decision-requires-clause-kept
-respond_line-decision-requires-clause-kept c = c.loop-number.invariant.kept
-
 pub respond_line-decision-requires-clause-room : goal.respond_line-decision-requires-clause-room
 respond_line-decision-requires-clause-room c =
     let known = c.args.known.now in
@@ -43,6 +40,3 @@ returns-2-clause-kept c = λ k lo hi.
     let h : k < n + 1 = omega (arith, c.last-number-end.ensures) in
     kept_next known n c.from.result c.loop-number.self.responses c.respond_line-decision.new.self.responses c.loop-number.self.numbers c.respond_line-decision.new.self.numbers _ _ _
     c.respond_line-decision.ensures.same c.from.ensures (search rules) (search rules) (search rules) c.len-start.ensures c.len.ensures c.respond_line-decision.ensures.responds c.loop-number.invariant.kept k lo h
-
-pub returns-2-clause-places : goal.returns-2-clause-places
-returns-2-clause-places c = c.respond_line-decision.ensures.places ∙ c.loop-number.invariant.places

@@ -5,15 +5,10 @@ use Rattle.trees.specs.Duties.{Due, dues_of}
 use Rattle.trees.specs.Known.{nothing}
 use Rattle.deciding.specs.Known.{due_at, read_dues, duties_of}
 use Rattle.deciding.specs.Kept.{taken_from}
-use Rattle.deciding.proofs.Adding.{adds_both, adds_read, responds_as, responds_bare, room_first, room_second}
+use Rattle.deciding.proofs.Adding.{adds_both, adds_read, responds_as, room_first, room_second}
 use Rattle.deciding.proofs.Spans.{taken-read}
-use Rattle.deciding.proofs.Closing.{appended-all, appended-none}
+use Rattle.deciding.proofs.Closing.{appended-all}
 use Rattle.deciding.proofs.taken.Taken.close.Goals as goal
-
-pub returns-then-not-all_fulfilled : goal.returns-then-not-all_fulfilled
-returns-then-not-all_fulfilled c =
-    let known = c.args.known.now in
-    responds_bare known _ _ _ (appended-none nothing (duties_of known c.args.last) (taken_from c.args.self.now (read_dues known (vec_items c.args.numbers.now))) (sym c.if-not-all_fulfilled.ensures))
 
 pub add_duties-requires-clause-room : goal.add_duties-requires-clause-room
 add_duties-requires-clause-room c =

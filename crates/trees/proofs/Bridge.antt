@@ -1,6 +1,8 @@
 -- That the policy with its readings in the place of the attributes answers as the policy does over any map that they agree with.
 use Rattle.std.proofs.Common.{◌≡◌, ℕ, zero, suc, ◌+◌, ◌-◌, ◌<◌, false, List, [], ◌∷◌, ◌++◌, length, get_or, Some, None, Option, refl, ap, ◌∙◌, subst, add-zero, arith}
 use Rattle.std.proofs.lemmas.List.{length_push}
+use Rattle.std.specs.List.{AllZip}
+use Rattle.std.proofs.lemmas.List.Elements.{AllZip-push, length_all_zip}
 use Rattle.values.specs.Values.{Val}
 use Rattle.policy.specs.declared.line.Force.{Force}
 use Rattle.policy.specs.declared.line.Effect.{Effect}
@@ -36,10 +38,7 @@ record Alike (m : Map) (p q : Part) : Type 0 where
 
 -- so place by place
 abbrev EachAlike : Map → List Part → List Part → Type 0
-EachAlike m [] [] = Unit {0}
-EachAlike m [] (q ∷ qs) = ⊥
-EachAlike m (p ∷ ps) [] = ⊥
-EachAlike m (p ∷ ps) (q ∷ qs) = Alike m p q × EachAlike m ps qs
+EachAlike m ps qs = AllZip (Alike m) ps qs
 
 module _ (m : Map) where
   no_duties : SameDuties m none none
@@ -106,18 +105,6 @@ module _ (m : Map) where
   alike_at (p ∷ ps) (q ∷ qs) h zero = h.0
   alike_at (p ∷ ps) (q ∷ qs) h (suc n) = alike_at ps qs h.1 n
 
-  alike_push : (ps qs : List Part) (p q : Part) → EachAlike m ps qs → Alike m p q → EachAlike m (ps ++ p ∷ []) (qs ++ q ∷ [])
-  alike_push [] [] p q h a = (a, tt)
-  alike_push [] (y ∷ qs) p q h a = absurd h
-  alike_push (x ∷ ps) [] p q h a = absurd h
-  alike_push (x ∷ ps) (y ∷ qs) p q h a = (h.0, alike_push ps qs p q h.1 a)
-
-  as_long : (ps qs : List Part) → EachAlike m ps qs → length ps ≡ length qs
-  as_long [] [] h = refl
-  as_long [] (q ∷ qs) h = absurd h
-  as_long (p ∷ ps) [] h = absurd h
-  as_long (p ∷ ps) (q ∷ qs) h = ap suc (as_long ps qs h.1)
-
   duties_at_lem : (ps qs : List Part) → EachAlike m ps qs → (d : Option ℕ) → SameDuties m (duties_at ps d) (duties_at qs d)
   duties_at_lem ps qs h None = no_duties
   duties_at_lem ps qs h (Some n) = (alike_at ps qs h n).owed
@@ -147,7 +134,7 @@ module _ (m : Map) where
 
   parts-alike : (vs : List Val) (ps qs : List Part) (ls : List Line) → EachAlike m ps qs → ReadsAfter vs ps ls → EachAlike m (parts_after (known vs) ps ls) (parts_after named qs ls)
   parts-alike vs ps qs [] h r = h
-  parts-alike vs ps qs (x ∷ ls) h r = parts-alike vs (ps ++ p ∷ []) (qs ++ q ∷ []) ls (alike_push ps qs p q h alike) later
+  parts-alike vs ps qs (x ∷ ls) h r = parts-alike vs (ps ++ p ∷ []) (qs ++ q ∷ []) ls (AllZip-push (Alike m) ps qs p q h alike) later
     where
       p : Part
       p = part_for (known vs) (length ps) ps x
@@ -159,7 +146,7 @@ module _ (m : Map) where
       alike =
           let P : ℕ → Type 0 = λ n. read_at vs n ≡ wanted m x (read_at vs n) in
           let Q : ℕ → Type 0 = λ n. Alike m p (part_for named n qs x) in
-          subst Q (as_long ps qs h) (part_alike vs (length ps) ps qs h x (subst P (add-zero (length ps)) (r 0 (omega arith))))
+          subst Q (length_all_zip (Alike m) ps qs h) (part_alike vs (length ps) ps qs h x (subst P (add-zero (length ps)) (r 0 (omega arith))))
 
       later : ReadsAfter vs (ps ++ p ∷ []) ls
       later i b =

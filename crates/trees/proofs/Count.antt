@@ -1,6 +1,9 @@
 -- That no response of a line's policy has more duties than the line's number.
 use Rattle.std.proofs.Common.{◌≡◌, ℕ, zero, suc, ◌+◌, ◌*◌, ◌<◌, ◌≤◌, Bool, true, false, cond, ◌||◌, eqb, List, [], ◌∷◌, ◌++◌, map, length, take, Some, None, Option, refl, ap, ◌∙◌, ⊎_elim, add-mul, arith, length-append}
 use Rattle.std.proofs.lemmas.List.{get_or_push, length_push}
+use Rattle.std.specs.List.{sum_by}
+use Rattle.std.proofs.lemmas.List.Sums.{sum_by-cons, sum_by_push, sum_by-take-le, sum_by-le-sum_by}
+use Rattle.std.proofs.lemmas.List.Concat.{length-flat_map}
 use Rattle.std.proofs.lemmas.Bool.{cases_eq}
 use Rattle.std.proofs.lemmas.Bool.Decides.{nat_tests}
 use Rattle.values.specs.Values.{Val}
@@ -80,12 +83,7 @@ closed-few m p d Indeterminate r n h = omega arith
 
 -- how many duties all children have
 abbrev all : List (Response Due) → ℕ
-all [] = 0
-all (r ∷ rs) = length r.duties + all rs
-
-all_push : (rs : List (Response Due)) (r : Response Due) → all (rs ++ r ∷ []) ≡ all rs + length r.duties
-all_push [] r = omega arith
-all_push (q ∷ rs) r = let h = all_push rs r in omega (arith, h)
+all rs = sum_by (λ r. length r.duties) rs
 
 -- one of two lists is no longer than both
 one_or_few : (b : Bool) (xs ys : List Due) (n : ℕ) → length ys ≤ n → length (cond b xs ys) ≤ length xs + n
@@ -94,19 +92,23 @@ one_or_few false xs ys n h = omega (arith, h)
 
 -- the duties joined over the first n children are no more than those of all
 joined-few : (d : Decision) (n : ℕ) (rs : List (Response Due)) → length (joined d (take n rs)) ≤ all rs
-joined-few d zero rs = omega arith
-joined-few d (suc n) [] = omega arith
-joined-few d (suc n) (r ∷ rs) =
-    let h = joined-few d n rs in
-    let t = one_or_few (same_decision d r.decision) r.duties [] 0 (omega arith) in
-    let e = length-append (taken d r) (joined d (take n rs)) in
-    omega (arith, h, t, e)
+joined-few d n rs =
+    let e = length-flat_map (taken d) (take n rs) in
+    let h = sum_by-take-le (λ r. length (taken d r)) rs n in
+    let k = sum_by-le-sum_by (λ r. length (taken d r)) (λ r. length r.duties) rs few in
+    omega (arith, e, h, k)
+  where
+    few : (r : Response Due) → length (taken d r) ≤ length r.duties
+    few r = let h = one_or_few (same_decision d r.decision) r.duties [] 0 (omega arith) in omega (arith, h)
 
 -- and so those of the first child taken
 first_few : (d : Decision) (n : ℕ) (rs : List (Response Due)) → length (first_taken d (take n rs)) ≤ all rs
 first_few d zero rs = omega arith
 first_few d (suc n) [] = omega arith
-first_few d (suc n) (r ∷ rs) = one_or_few (same_decision d r.decision) r.duties (first_taken d (take n rs)) (all rs) (first_few d n rs)
+first_few d (suc n) (r ∷ rs) =
+    let h = one_or_few (same_decision d r.decision) r.duties (first_taken d (take n rs)) (all rs) (first_few d n rs) in
+    let e = sum_by-cons (λ r. length r.duties) r rs in
+    omega (arith, h, e)
 
 duties_few : (w : Wording) (d : Decision) (n : ℕ) (rs : List (Response Due)) → length (duties_for w d (take n rs)) ≤ all rs
 duties_few w d n rs = by w.joins
@@ -138,7 +140,7 @@ mutual
   items_few m (more is p) =
       let h = items_few m is in
       let k = policy_few m p in
-      let e = all_push (rest m is) (respond m p) in
+      let e = sum_by_push (λ r. length r.duties) (first m is ∷ rest m is) (respond m p) in
       omega (arith, h, k, e)
 
 -- a part weighs at most one more than the parts that its line names
@@ -201,12 +203,7 @@ line_weighs leaf n ps (l.Set c t i p d) =
 -- all parts together
 
 abbrev total : List Part → ℕ
-total [] = 0
-total (p ∷ ps) = weight p + total ps
-
-total-push : (ps : List Part) (p : Part) → total (ps ++ p ∷ []) ≡ total ps + weight p
-total-push [] p = omega arith
-total-push (q ∷ ps) p = let h = total-push ps p in omega (arith, h)
+total ps = sum_by weight ps
 
 -- all parts from line k on, that of line i as often as `often i`
 abbrev counted : (ℕ → ℕ) → ℕ → List Part → ℕ
@@ -237,7 +234,8 @@ counted-once f k [] h = omega arith
 counted-once f k (p ∷ ps) h =
     let a = at_most_once (f k) (weight p) (h k (omega arith) (omega arith)) in
     let b = counted-once f (k + 1) ps (λ i lo hi. h i (omega arith) (omega arith)) in
-    omega (arith, a, b)
+    let e = sum_by-cons weight p ps in
+    omega (arith, a, b, e)
 
 -- a reference counts the part that it names
 counted-one : (ps : List Part) (k n j : ℕ) → n ≡ k + j → weight (part_at ps k) ≤ counted (λ i. cond (eqb n i) 1 0) j ps
@@ -278,7 +276,7 @@ part_weighs leaf ps often (x ∷ ls) b o n lo hi =
     let is = ap weight (kept leaf (no_part ∷ (ps ++ p ∷ [])) ls n (omega (arith, long, q)) ∙ get_or_push (no_part ∷ ps) p no_part n (omega (arith, q))) in
     omega (arith, within, single, is, q))
     (λ q.
-    let all-now = total-push (no_part ∷ ps) p in
+    let all-now = sum_by_push weight (no_part ∷ ps) p in
     let no_less = counted-push now 0 (no_part ∷ ps) p in
     part_weighs leaf (ps ++ p ∷ []) now ls (omega (arith, long, within, all-now, no_less))
     (λ k up down. let h = o k up (omega (arith, long, down)) in omega (arith, h)) n (omega (arith, long, lo, q)) (omega (arith, long, hi)))

@@ -1,5 +1,6 @@
 -- That a policy with greedy sets answers as if all children were visited, with none or some duties omitted.
-use Rattle.std.proofs.Common.{Bool, true, false, cond, ◌||◌, List, [], ◌∷◌, ◌++◌, subst}
+use Rattle.std.proofs.Common.{Bool, true, false, cond, ◌||◌, ◌++◌, subst}
+use Rattle.std.proofs.lemmas.List.Elements.{AllZip-push}
 use Rattle.values.specs.Values.{Val}
 use Rattle.operators.specs.Classes.{is_true, is_false, is_missing}
 use Rattle.combining.specs.declared.decision.Decision.{Decision}
@@ -44,12 +45,6 @@ target_fewer v r s h = by (is_true v)
     by true = h
     by false = fewer_refl off
 
-each-push : (rs ss : List (Response Due)) (r s : Response Due) → EachFewer rs ss → Fewer r s → EachFewer (rs ++ r ∷ []) (ss ++ s ∷ [])
-each-push [] [] r s hs h = (h, tt)
-each-push [] (y ∷ ss) r s hs h = absurd hs
-each-push (x ∷ rs) [] r s hs h = absurd hs
-each-push (x ∷ rs) (y ∷ ss) r s hs h = (hs.0, each-push rs ss r s hs.1 h)
-
 mutual
   unfolding respond all_visited
 
@@ -66,4 +61,4 @@ mutual
 
   rest-fewer : (m : Map) (is : Items) → EachFewer (rest m is) (rest m (each_all_visited is))
   rest-fewer m (one p) = tt
-  rest-fewer m (more is p) = each-push (rest m is) (rest m (each_all_visited is)) _ _ (rest-fewer m is) (fewer_all m p)
+  rest-fewer m (more is p) = AllZip-push Fewer (rest m is) (rest m (each_all_visited is)) _ _ (rest-fewer m is) (fewer_all m p)

@@ -14,8 +14,8 @@ ghost use Rattle.trees.specs.Known.{Reads, wanted, known_policy, nothing};
 ghost use Rattle.deciding.specs.Answer.{response_of, answer_places, places, Enough};
 
 use crate::evaluator::Evaluator;
-use crate::kept::Kept;
-use crate::lines::respond_last;
+use crate::known::Known;
+use crate::memory::Memory;
 use crate::response::Answer;
 use combining::Decision;
 use policy::{Line, Policy};
@@ -66,9 +66,8 @@ fn read_row(lines: &[Line], row: &Row, readings: &mut Vec<Value>)
     ensures cap { vec_capacity readings.new ≡ vec_capacity readings.old }
 {
     readings.clear();
-    for i in 0..lines.len() {
-        let value = read_line(lines[i], row);
-        readings.push_reserved(value);
+    for line in lines {
+        readings.push_reserved(read_line(*line, row));
     }
 }
 
@@ -77,17 +76,9 @@ impl Evaluator {
     pub fn new(heap: Global) -> Result<Evaluator, AllocError>
         ensures { IfOk result (λ e. Enough (places e)) }
     {
-        let numbers = Vec::with_capacity(heap, 65536)?;
+        let memory = Memory::new(heap)?;
         let readings = Vec::with_capacity(heap, 256)?;
-        let children = Vec::with_capacity(heap, 256)?;
-        let decisions = Vec::with_capacity(heap, 256)?;
-        Ok(Evaluator {
-            responses: [Kept::NONE; 257],
-            numbers,
-            readings,
-            children,
-            decisions,
-        })
+        Ok(Evaluator { memory, readings })
     }
 
     // Answers by readings that are given line by line: those of every map that they agree with.
@@ -98,16 +89,11 @@ impl Evaluator {
         ensures same { answer_places answer.new ≡ answer_places answer.old }
         ensures places { places self.new ≡ places self.old }
     {
-        let lines = policy.lines();
-        respond_last(
-            lines,
+        let known = Known {
+            lines: policy.lines(),
             readings,
-            &mut self.responses,
-            &mut self.children,
-            &mut self.decisions,
-            &mut self.numbers,
-            answer,
-        );
+        };
+        self.memory.respond(&known, answer);
     }
 
     // Answers by a row of a readings file.
@@ -119,14 +105,10 @@ impl Evaluator {
     {
         let lines = policy.lines();
         read_row(lines, row, &mut self.readings);
-        respond_last(
+        let known = Known {
             lines,
-            self.readings.as_slice(),
-            &mut self.responses,
-            &mut self.children,
-            &mut self.decisions,
-            &mut self.numbers,
-            answer,
-        );
+            readings: self.readings.as_slice(),
+        };
+        self.memory.respond(&known, answer);
     }
 }

@@ -1,6 +1,6 @@
 -- The answer by readings is the answer by every map that they agree with.
 use Rattle.std.proofs.Common.{◌≡◌, List, sym, ◌∙◌, subst}
-use Rattle.values.specs.Values.{Val}
+use Rattle.values.specs.declared.value.Value.{Value}
 use Rattle.policy.specs.declared.line.Line.{Line}
 use Rattle.combining.specs.Combined.{Response}
 use Rattle.combining.specs.Fewer.{Fewer}
@@ -13,7 +13,7 @@ use Rattle.trees.specs.AllVisited.{all_visited}
 use Rattle.trees.proofs.Bridge.{known-respond}
 use Rattle.trees.proofs.Greedy.{fewer_all}
 
-module _ (ls : List Line) (vs : List Val) (m : Map) (r : Reads ls vs m) (x : Response Due) (e : x ≡ respond nothing (known_policy ls vs)) where
+module _ (ls : List Line) (vs : List Value) (m : Map) (r : Reads ls vs m) (x : Response Due) (e : x ≡ respond nothing (known_policy ls vs)) where
   pub by_map : x ≡ respond m (policy_of ls)
   by_map = e ∙ known-respond ls vs m r
 

@@ -1,7 +1,8 @@
 -- What the parts of a policy's lines mean, once the readings are put in.
 use Rattle.std.proofs.Common.{◌≡◌, ℕ, ◌+◌, ◌<◌, ◌≤◌, ◌&&◌, List, [], ◌∷◌, ◌++◌, Some, None, Option, sym, refl, ap, ◌∙◌, map, arith}
 use Rattle.spelling.specs.declared.algorithm.Combining.{Combining}
-use Rattle.values.specs.Values.{Val, error, val_of}
+use Rattle.values.specs.declared.value.Value.{Value}
+use Rattle.values.specs.declared.value.Value.TheVariants.{Error as error}
 use Rattle.policy.specs.declared.line.Line.{Line}
 use Rattle.policy.specs.declared.line.Line.TheVariants as l
 use Rattle.policy.specs.declared.line.Operator.{Operator}
@@ -25,7 +26,7 @@ use Rattle.deciding.specs.Kept.{set_response, ended_by}
 
 -- the part of line n, which is x
 abbrev part_from : Known → ℕ → Line → Part
-part_from known n x = part_for (known_leaf (map val_of known.readings.now)) n (parts known) x
+part_from known n x = part_for (known_leaf known.readings.now) n (parts known) x
 
 -- how high a chain of lines is that ends there, at most
 abbrev pub height : Option ℕ → ℕ
@@ -61,7 +62,7 @@ no_due ps (l.Set c t i p d) r = refl
 
 module _ (known : Known) (n : ℕ) (lo : 0 < n) (hi : n ≤ size known) where
   part_is : (x : Line) → x ≡ line_of known n → part_at (parts known) n ≡ part_from known n x
-  part_is x f = grown (known_leaf (map val_of known.readings.now)) known.lines.now known.tree.above n lo hi (sym f)
+  part_is x f = grown (known_leaf known.readings.now) known.lines.now known.tree.above n lo hi (sym f)
 
   pub value_is : (x : Line) → x ≡ line_of known n → value_at known n ≡ value_of nothing (as_expression (part_from known n x))
   value_is x f = ap (λ p. value_of nothing (as_expression p)) (part_is x f)
@@ -111,7 +112,7 @@ module _ (known : Known) (n : ℕ) (lo : 0 < n) (hi : n ≤ size known) where
 
   pub duty_within : {g : Force} {b e : ℕ} {d : Option ℕ} → l.Duty g b e d ≡ line_of known n → (0 < e) × (e < n) × Within (size known) d
   duty_within {g} {b} {e} {d} f =
-      let r = rests (known_leaf (map val_of known.readings.now)) known.lines.now known.tree.above n lo hi (sym f) in
+      let r = rests (known_leaf known.readings.now) known.lines.now known.tree.above n lo hi (sym f) in
       (r.0, r.1, may_within known n _ d hi r.2)
 
   -- the dues of a chain are those of the earlier one and the last line's
@@ -143,15 +144,15 @@ module _ (known : Known) (n : ℕ) (lo : 0 < n) (hi : n ≤ size known) where
       by (l.Set c t i p d) r = refl
 
   pub item_below : {p : ℕ} {i : Option ℕ} → l.Item p i ≡ line_of known n → (0 < p) × (p < n)
-  item_below f = let r = rests (known_leaf (map val_of known.readings.now)) known.lines.now known.tree.above n lo hi (sym f) in (r.0, r.1)
+  item_below f = let r = rests (known_leaf known.readings.now) known.lines.now known.tree.above n lo hi (sym f) in (r.0, r.1)
 
   pub earlier_below : {p k : ℕ} {i : Option ℕ} → l.Item p i ≡ line_of known n → i ≡ Some k → (0 < k) × (k < n)
   earlier_below {p} {k} {i} f q =
-      let r = rests (known_leaf (map val_of known.readings.now)) known.lines.now known.tree.above n lo hi (sym (ap (l.Item p) (sym q) ∙ f)) in
+      let r = rests (known_leaf known.readings.now) known.lines.now known.tree.above n lo hi (sym (ap (l.Item p) (sym q) ∙ f)) in
       (r.2.0, r.2.1)
 
   -- the response of line n's policy, by what its target's value decides
-  module _ {v : Val} (o : Option Decision) (ends : (x : Response Due) → on_target v x ≡ ended_by o x) where
+  module _ {v : Value} (o : Option Decision) (ends : (x : Response Due) → on_target v x ≡ ended_by o x) where
     pub rule_is : {e : Effect} {t : ℕ} {d : Option ℕ} → l.Rule e t d ≡ line_of known n → v ≡ value_at known t
         → response_at known n ≡ ended_by o (appended nothing (duties_of known d) (bare (decision_for e)))
     unfolding respond
@@ -184,6 +185,6 @@ module _ (known : Known) (n : ℕ) (lo : 0 < n) (hi : n ≤ size known) where
 
   pub set-within : {c : Combining} {t i : ℕ} {p d : Option ℕ} → l.Set c t i p d ≡ line_of known n → Within (size known) p × Within (size known) d
   set-within {c} {t} {i} {p} {d} f =
-      let r = rests (known_leaf (map val_of known.readings.now)) known.lines.now known.tree.above n lo hi (sym f) in
+      let r = rests (known_leaf known.readings.now) known.lines.now known.tree.above n lo hi (sym f) in
       let b = below-append n (may_name _ p) (may_name _ d) r.2.2 in
       (may_within known n _ p hi b.0, may_within known n _ d hi b.1)

@@ -1,6 +1,7 @@
 -- An accepted policy's lines and what they read: the parts that they stand for.
 use Rattle.std.specs.Prelude.{ℕ, ◌<◌, ◌≤◌, List, ◌∷◌, map, length, Some, None, Option}
-use Rattle.values.specs.Values.{Val, error, val_of}
+use Rattle.values.specs.declared.value.Value.{Value}
+use Rattle.values.specs.declared.value.Value.TheVariants.{Error as error}
 use Rattle.policy.specs.declared.line.Line.{Line}
 use Rattle.policy.specs.declared.line.Line.TheVariants as l
 use Rattle.policy.specs.declared.line.Force.{Force}
@@ -23,9 +24,9 @@ line_of known n = line_at known.lines.now n
 
 -- the lines' parts, the readings put in for the attributes
 abbrev pub parts : Known → List Part
-parts known = known_parts known.lines.now (map val_of known.readings.now)
+parts known = known_parts known.lines.now known.readings.now
 
-abbrev pub value_at : Known → ℕ → Val
+abbrev pub value_at : Known → ℕ → Value
 value_at known n = value_of nothing (as_expression (part_at (parts known) n))
 
 abbrev pub duties_of : Known → Option ℕ → Duties
@@ -42,7 +43,7 @@ responses_of is = first nothing is ∷ rest nothing is
 abbrev pub response_at : Known → ℕ → Response Due
 response_at known n = respond nothing (as_policy (part_at (parts known) n))
 
-abbrev pub due : Force → ℕ → Val → Due
+abbrev pub due : Force → ℕ → Value → Due
 due f a v = record { force = f; action = a; argument = v }
 
 -- the duty of a line; what is no duty line stands for one that nobody has

@@ -1,7 +1,6 @@
 // The response of one line's policy, by the responses kept of the lines above it.
 
 ghost use Rattle.std.specs.Prelude.{◌≡◌, ◌<◌, ◌≤◌};
-ghost use Rattle.values.specs.Values.{val_of};
 ghost use Rattle.combining.specs.Combined.{Response};
 ghost use Rattle.trees.specs.Duties.{Due};
 ghost use Rattle.trees.specs.Policies.{decision_for, on_target};
@@ -22,7 +21,7 @@ use values::Value;
 
 // What a target decides by itself; none where it is true.
 fn ended_by(target: &Value) -> Option<Decision>
-    ensures { (x : Response Due) → on_target (val_of target.now) x ≡ ended_by result x }
+    ensures { (x : Response Due) → on_target target.now x ≡ ended_by result x }
 {
     match target {
         Value::Bool(true) => None,

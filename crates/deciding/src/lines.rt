@@ -1,7 +1,6 @@
 // All lines of a policy, worked from the top.
 
 ghost use Rattle.std.specs.Prelude.{◌≡◌, ◌+◌, ◌≤◌, map, length};
-ghost use Rattle.values.specs.Values.{val_of};
 ghost use Rattle.trees.specs.Policies.{respond as respond_of};
 ghost use Rattle.trees.specs.Known.{known_policy, nothing};
 ghost use Rattle.deciding.specs.Known.{size, read_dues};
@@ -51,7 +50,7 @@ impl Memory {
 
     // The answer of the last line's policy.
     pub(crate) fn respond(&mut self, known: &Known, answer: &mut Answer)
-        ensures answer { response_of answer.new ≡ respond_of nothing (known_policy known.now.lines.now (map val_of known.now.readings.now)) }
+        ensures answer { response_of answer.new ≡ respond_of nothing (known_policy known.now.lines.now known.now.readings.now) }
         ensures same { answer_places answer.new ≡ answer_places answer.old }
         ensures places { memory_places self.new ≡ memory_places self.old }
     {

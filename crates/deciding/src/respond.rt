@@ -1,7 +1,7 @@
 // A policy's answer to readings.
 
 ghost use Rattle.std.specs.Prelude.{◌≡◌, ◌≤◌, [], map, length, IfOk, vec_capacity};
-ghost use Rattle.values.specs.Values.{val_of, missing};
+ghost use Rattle.values.specs.declared.value.Value.TheVariants.{Missing as missing};
 ghost use Rattle.policy.specs.Accepted.{lines_of};
 ghost use Rattle.readings.specs.Rows.{map_in};
 ghost use Rattle.combining.specs.Fewer.{Fewer};
@@ -51,7 +51,7 @@ impl Answer {
 
 // What a line reads in a row: the value of its name; a line of another kind reads nothing.
 fn read_line(line: Line, row: &Row) -> Value
-    ensures { val_of result ≡ wanted (map_in row.now) line missing }
+    ensures { result ≡ wanted (map_in row.now) line missing }
 {
     match line {
         Line::Attribute(name) => row.look_up(name.as_bytes()),
@@ -62,7 +62,7 @@ fn read_line(line: Line, row: &Row) -> Value
 // Looks up every attr line in a row.
 fn read_row(lines: &[Line], row: &Row, readings: &mut Vec<Value>)
     requires { length lines.now ≤ vec_capacity readings.old }
-    ensures reads { Reads lines.now (map val_of readings.new.items) (map_in row.now) }
+    ensures reads { Reads lines.now readings.new.items (map_in row.now) }
     ensures cap { vec_capacity readings.new ≡ vec_capacity readings.old }
 {
     readings.clear();
@@ -83,9 +83,9 @@ impl Evaluator {
 
     // Answers by readings that are given line by line: those of every map that they agree with.
     pub fn respond(&mut self, policy: &Policy, readings: &[Value], answer: &mut Answer)
-        ensures known { response_of answer.new ≡ respond_of nothing (known_policy (lines_of policy.now) (map val_of readings.now)) }
-        ensures responds { (m : Map) → Reads (lines_of policy.now) (map val_of readings.now) m → response_of answer.new ≡ respond_of m (policy_of (lines_of policy.now)) }
-        ensures greedy { (m : Map) → Reads (lines_of policy.now) (map val_of readings.now) m → Fewer (response_of answer.new) (respond_of m (all_visited (policy_of (lines_of policy.now)))) }
+        ensures known { response_of answer.new ≡ respond_of nothing (known_policy (lines_of policy.now) readings.now) }
+        ensures responds { (m : Map) → Reads (lines_of policy.now) readings.now m → response_of answer.new ≡ respond_of m (policy_of (lines_of policy.now)) }
+        ensures greedy { (m : Map) → Reads (lines_of policy.now) readings.now m → Fewer (response_of answer.new) (respond_of m (all_visited (policy_of (lines_of policy.now)))) }
         ensures same { answer_places answer.new ≡ answer_places answer.old }
         ensures places { places self.new ≡ places self.old }
     {

@@ -1,7 +1,6 @@
 // The value of an expression.
 
 ghost use Rattle.std.specs.Prelude.{◌≡◌, ◌<◌, ◌≤◌, map};
-ghost use Rattle.values.specs.Values.{val_of};
 ghost use Rattle.trees.specs.Expressions.{applied};
 ghost use Rattle.trees.specs.Duties.{fulfils};
 ghost use Rattle.trees.specs.Known.{read_at};
@@ -14,7 +13,7 @@ use values::Value;
 
 #[tactic(auto, unfolding(trees::specs::Expressions::applied))]
 fn apply(operator: Operator, a: &Value, b: &Value) -> Value
-    ensures { val_of result ≡ applied operator (val_of a.now) (val_of b.now) }
+    ensures { result ≡ applied operator a.now b.now }
 {
     match operator {
         Operator::And => and(a, b),
@@ -30,7 +29,7 @@ fn apply(operator: Operator, a: &Value, b: &Value) -> Value
 }
 
 pub(crate) fn is_fulfilled(argument: &Value) -> bool
-    ensures { result ≡ fulfils (val_of argument.now) }
+    ensures { result ≡ fulfils argument.now }
 {
     match argument {
         Value::Bool(_) | Value::Number(_) | Value::Text(_) => true,
@@ -42,7 +41,7 @@ impl Known<'_> {
     // What line `number` read.
     fn reading(&self, number: LineNumber) -> Value
         requires { 0 < number }
-        ensures { val_of result ≡ read_at (map val_of self.now.readings.now) number }
+        ensures { result ≡ read_at self.now.readings.now number }
     {
         let reading = self.readings.get(usize::from(number) - 1);
         reading.copied().unwrap_or(Value::Missing)
@@ -52,7 +51,7 @@ impl Known<'_> {
     pub(crate) fn value(&self, number: LineNumber) -> Value
         requires low { 0 < number }
         requires high { number ≤ size self.now }
-        ensures { val_of result ≡ value_at self.now number }
+        ensures { result ≡ value_at self.now number }
     {
         match self.line(number) {
             Line::Truth(truth) => Value::Bool(truth),

@@ -1,14 +1,12 @@
 -- Parts counted, and parts read one after the other.
-use Rattle.std.proofs.Common.{◌≡◌, ℕ, ◌+◌, ◌≤◌, eqb, cond, ◌||◌, List, [], ◌∷◌, ◌++◌, map, length, Some, Ok, Err, MatchResult, Result, Bor, sym, refl, ap, ◌∙◌, subst, append_assoc, arith}
+use Rattle.std.proofs.Common.{◌≡◌, ℕ, ◌+◌, ◌≤◌, eqb, cond, ◌||◌, List, [], ◌∷◌, ◌++◌, length, Some, Ok, Err, MatchResult, Result, Bor, sym, refl, ap, ◌∙◌, subst, append_assoc, arith}
 use Rattle.std.specs.List.{slice_split, onto_first, list_any}
 use Rattle.std.specs.Str.{bytes_eq}
-use Rattle.std.proofs.lemmas.List.{append-nil, map_push}
+use Rattle.std.proofs.lemmas.List.{append-nil}
 use Rattle.std.proofs.lemmas.List.Splits.{length-slice_split}
 use Rattle.std.proofs.lemmas.List.Sums.{count_by-le-length}
-use Rattle.values.specs.Short.{name_bytes}
-use Rattle.values.specs.Values.{Val, val_of}
-use Rattle.values.specs.declared.short.Name.{Name}
 use Rattle.values.specs.declared.value.Value.{Value}
+use Rattle.values.specs.Short.{Name}
 use Rattle.spelling.specs.Cells.{cell_of}
 use Rattle.spelling.specs.Cuts.{parts, cut_of, onto}
 use Rattle.spelling.proofs.Cuts.{parts-some}
@@ -18,7 +16,7 @@ use Rattle.refusals.specs.declared.cause.Cause.{Cause}
 use Rattle.refusals.specs.declared.cause.Cause.TheVariants as why
 use Rattle.refusals.specs.declared.place.LineFault.{LineFault}
 use Rattle.readings.specs.Table.{among, fresh_name, names_from, cells_from}
-use Rattle.readings.specs.Read.{after, value_as, items_as, ReadInTurn}
+use Rattle.readings.specs.Read.{after, items_as, ReadInTurn}
 
 onto_same : (x : ℕ) (ps : List (List ℕ)) → onto x ps ≡ onto_first x ps
 onto_same x [] = refl
@@ -57,53 +55,52 @@ module _ {A : Type 0} (Reads : Bor (List ℕ) → Bor (List A) → Result A Caus
   part-read (Err e) k v h r items rest = cc
 
 -- what was read in turn is what the parts spell: `want` is that, after the items before
-module _ {A B : Type 0} (meaning : A → B) (spelled : List B → List ℕ → Result B Cause) (want : ℕ → List B → List (List ℕ) → Result (List B) LineFault)
-    (none : (n : ℕ) (ys : List B) → want n ys [] ≡ Ok ys)
-    (some : (n : ℕ) (ys : List B) (p : List ℕ) (ps : List (List ℕ)) → want n ys (p ∷ ps) ≡ bind_r (at_field n (spelled ys p)) (λ y. want (n + 1) (ys ++ y ∷ []) ps))
+module _ {A : Type 0} (spelled : List A → List ℕ → Result A Cause) (want : ℕ → List A → List (List ℕ) → Result (List A) LineFault)
+    (none : (n : ℕ) (ys : List A) → want n ys [] ≡ Ok ys)
+    (some : (n : ℕ) (ys : List A) (p : List ℕ) (ps : List (List ℕ)) → want n ys (p ∷ ps) ≡ bind_r (at_field n (spelled ys p)) (λ y. want (n + 1) (ys ++ y ∷ []) ps))
     (Reads : Bor (List ℕ) → Bor (List A) → Result A Cause → Type 0)
-    (says : (part : Bor (List ℕ)) (seen : Bor (List A)) (x : Result A Cause) → Reads part seen x → value_as meaning x ≡ spelled (map meaning seen.now) part.now) where
-  one_read : (p : List ℕ) (ps : List (List ℕ)) (n : ℕ) (before : List A) (r : Result (Unit {0}) LineFault) (items : List A) (x : Result A Cause) → value_as meaning x ≡ spelled (map meaning before) p
-      → ((v : A) → ReadInTurn Reads (n + 1) (before ++ v ∷ []) ps r items → items_as meaning r items ≡ want (n + 1) (map meaning (before ++ v ∷ [])) ps)
+    (says : (part : Bor (List ℕ)) (seen : Bor (List A)) (x : Result A Cause) → Reads part seen x → x ≡ spelled seen.now part.now) where
+  one_read : (p : List ℕ) (ps : List (List ℕ)) (n : ℕ) (before : List A) (r : Result (Unit {0}) LineFault) (items : List A) (x : Result A Cause) → x ≡ spelled before p
+      → ((v : A) → ReadInTurn Reads (n + 1) (before ++ v ∷ []) ps r items → items_as r items ≡ want (n + 1) (before ++ v ∷ []) ps)
       → MatchResult x (λ v. ReadInTurn Reads (n + 1) (before ++ v ∷ []) ps r items) (λ e. (r ≡ Err (record { cause = e; field = n })) × (items ≡ before))
-      → items_as meaning r items ≡ want n (map meaning before) (p ∷ ps)
+      → items_as r items ≡ want n before (p ∷ ps)
   one_read p ps n before r items (Ok v) s others m =
       others v m
-      ∙ ap (λ ys. want (n + 1) ys ps) (map_push meaning before v)
-      ∙ ap (λ o. bind_r (at_field n o) (λ y. want (n + 1) (map meaning before ++ y ∷ []) ps)) s
-      ∙ sym (some n (map meaning before) p ps)
+      ∙ ap (λ o. bind_r (at_field n o) (λ y. want (n + 1) (before ++ y ∷ []) ps)) s
+      ∙ sym (some n before p ps)
   one_read p ps n before r items (Err e) s others m =
-      ap (λ q. items_as meaning q items) m.0
-      ∙ ap (λ o. bind_r (at_field n o) (λ y. want (n + 1) (map meaning before ++ y ∷ []) ps)) s
-      ∙ sym (some n (map meaning before) p ps)
+      ap (λ q. items_as q items) m.0
+      ∙ ap (λ o. bind_r (at_field n o) (λ y. want (n + 1) (before ++ y ∷ []) ps)) s
+      ∙ sym (some n before p ps)
 
-  pub all-read : (ps : List (List ℕ)) (n : ℕ) (before : List A) (r : Result (Unit {0}) LineFault) (items : List A) → ReadInTurn Reads n before ps r items → items_as meaning r items ≡ want n (map meaning before) ps
-  all-read [] n before r items h = ap (λ q. items_as meaning q items) h.0 ∙ ap (λ xs. Ok (map meaning xs)) h.1 ∙ sym (none n (map meaning before))
+  pub all-read : (ps : List (List ℕ)) (n : ℕ) (before : List A) (r : Result (Unit {0}) LineFault) (items : List A) → ReadInTurn Reads n before ps r items → items_as r items ≡ want n before ps
+  all-read [] n before r items h = ap (λ q. items_as q items) h.0 ∙ ap Ok h.1 ∙ sym (none n before)
   all-read (p ∷ ps) n before r items h =
-      let s = says h.0 h.1 h.2 h.5 ∙ ap (λ xs. spelled (map meaning xs) h.0.now) h.4 ∙ ap (spelled (map meaning before)) h.3 in
+      let s = says h.0 h.1 h.2 h.5 ∙ ap (λ xs. spelled xs h.0.now) h.4 ∙ ap (spelled before) h.3 in
       one_read p ps n before r items h.2 s (λ v k. all-read ps (n + 1) (before ++ v ∷ []) r items k) h.6
 
-after-all : (before : List Val) (o : Result Val LineFault) (r : Result (List Val) LineFault) → after before (bind_r o (λ v. bind_r r (λ vs. Ok (v ∷ vs)))) ≡ bind_r o (λ v. after (before ++ v ∷ []) r)
+after-all : (before : List Value) (o : Result Value LineFault) (r : Result (List Value) LineFault) → after before (bind_r o (λ v. bind_r r (λ vs. Ok (v ∷ vs)))) ≡ bind_r o (λ v. after (before ++ v ∷ []) r)
 after-all before (Ok v) (Ok vs) = ap Ok (sym (append_assoc before (v ∷ []) vs))
 after-all before (Ok v) (Err e) = refl
 after-all before (Err e) r = refl
 
 -- the names, and the cells
 pub names-read : (Reads : Bor (List ℕ) → Bor (List Name) → Result Name Cause → Type 0)
-    (says : (part : Bor (List ℕ)) (seen : Bor (List Name)) (x : Result Name Cause) → Reads part seen x → value_as name_bytes x ≡ fresh_name (map name_bytes seen.now) part.now)
-    (ps : List (List ℕ)) (before : List Name) (r : Result (Unit {0}) LineFault) (items : List Name) → ReadInTurn Reads 1 before ps r items → items_as name_bytes r items ≡ names_from 1 (map name_bytes before) ps
-names-read Reads says ps before = all-read name_bytes fresh_name names_from (λ n ys. refl) (λ n ys p qs. refl) Reads says ps 1 before
+    (says : (part : Bor (List ℕ)) (seen : Bor (List Name)) (x : Result Name Cause) → Reads part seen x → x ≡ fresh_name seen.now part.now)
+    (ps : List (List ℕ)) (before : List Name) (r : Result (Unit {0}) LineFault) (items : List Name) → ReadInTurn Reads 1 before ps r items → items_as r items ≡ names_from 1 before ps
+names-read Reads says ps before = all-read fresh_name names_from (λ n ys. refl) (λ n ys p qs. refl) Reads says ps 1 before
 
 pub cells_read : (Reads : Bor (List ℕ) → Bor (List Value) → Result Value Cause → Type 0)
-    (says : (part : Bor (List ℕ)) (seen : Bor (List Value)) (x : Result Value Cause) → Reads part seen x → value_as val_of x ≡ or_refuse (cell_of part.now) why.CellMisspelt)
-    (ps : List (List ℕ)) (before : List Value) (r : Result (Unit {0}) LineFault) (items : List Value) → ReadInTurn Reads 1 before ps r items → items_as val_of r items ≡ after (map val_of before) (cells_from 1 ps)
+    (says : (part : Bor (List ℕ)) (seen : Bor (List Value)) (x : Result Value Cause) → Reads part seen x → x ≡ or_refuse (cell_of part.now) why.CellMisspelt)
+    (ps : List (List ℕ)) (before : List Value) (r : Result (Unit {0}) LineFault) (items : List Value) → ReadInTurn Reads 1 before ps r items → items_as r items ≡ after before (cells_from 1 ps)
 cells_read Reads says ps before =
-    all-read val_of (λ _ p. or_refuse (cell_of p) why.CellMisspelt) (λ n ys qs. after ys (cells_from n qs)) (λ n ys. ap Ok (append-nil ys))
+    all-read (λ _ p. or_refuse (cell_of p) why.CellMisspelt) (λ n ys qs. after ys (cells_from n qs)) (λ n ys. ap Ok (append-nil ys))
     (λ n ys p qs. after-all ys (at_field n (or_refuse (cell_of p) why.CellMisspelt)) (cells_from (n + 1) qs)) Reads says ps 1 before
 
 -- a name among others, as the library's `any` tells it
-pub among_any : (s : List ℕ) (names : List Name) → list_any (λ x. bytes_eq (name_bytes x) s) names ≡ among s (map name_bytes names)
+pub among_any : (s : List ℕ) (names : List Name) → list_any (λ x. bytes_eq x s) names ≡ among s names
 among_any s [] = refl
-among_any s (x ∷ names) = ap (λ t. bytes_eq (name_bytes x) s || t) (among_any s names)
+among_any s (x ∷ names) = ap (λ t. bytes_eq x s || t) (among_any s names)
 
 pub after-nil : {A E : Type 0} (r : Result (List A) E) → after [] r ≡ r
 after-nil (Ok xs) = refl

@@ -1,7 +1,5 @@
 -- The answer to a readings file.
-use Rattle.std.specs.Prelude.{◌≡◌, ℕ, zero, suc, List, [], ◌∷◌, map, length, take, drop, Ok, Err, vec_items, vec_capacity, Result}
-use Rattle.values.specs.Short.{name_bytes}
-use Rattle.values.specs.Values.{Val, val_of}
+use Rattle.std.specs.Prelude.{◌≡◌, ℕ, zero, suc, List, [], ◌∷◌, length, take, drop, Ok, Err, vec_items, vec_capacity, Result}
 use Rattle.values.specs.declared.value.Value.{Value}
 use Rattle.refusals.specs.Limits.{small_of}
 use Rattle.refusals.specs.Results.{bind_r}
@@ -12,15 +10,15 @@ use Rattle.readings.specs.declared.table.Readings.{Readings}
 use Rattle.readings.specs.declared.table.TableRoom.{TableRoom}
 
 -- n rows of a width, one after the other
-abbrev pub rows_in : ℕ → ℕ → List Val → List (List Val)
+abbrev pub rows_in : ℕ → ℕ → List Value → List (List Value)
 rows_in width zero vs = []
 rows_in width (suc n) vs = take width vs ∷ rows_in width n (drop width vs)
 
 abbrev pub names_in : Readings → List (List ℕ)
-names_in r = map name_bytes (vec_items r.names)
+names_in r = vec_items r.names
 
-abbrev pub cells_in : Readings → List Val
-cells_in r = map val_of (vec_items r.cells)
+abbrev pub cells_in : Readings → List Value
+cells_in r = vec_items r.cells
 
 -- the table that the readings hold
 abbrev pub table_in : Readings → Table
@@ -43,8 +41,8 @@ Answers file places (Ok r) = (readings_of file ≡ Ok (table_in r)) × (places_i
 Answers file places (Err e) = (readings_of file ≡ Err e.rejection) × (places_of e.room ≡ places)
 
 -- the rows that were read, or the fault
-abbrev pub as_rows : ℕ → Result ℕ Rejection → List Value → Result (List (List Val)) Rejection
-as_rows width (Ok n) vs = Ok (rows_in width n (map val_of vs))
+abbrev pub as_rows : ℕ → Result ℕ Rejection → List Value → Result (List (List Value)) Rejection
+as_rows width (Ok n) vs = Ok (rows_in width n vs)
 as_rows width (Err e) vs = Err e
 
 -- the table that was read, or the fault

@@ -1,19 +1,14 @@
 -- What a reader answered, with the items that it left.
-use Rattle.std.specs.Prelude.{◌≡◌, ℕ, ◌+◌, List, [], ◌∷◌, ◌++◌, map, Ok, Err, MatchResult, Result}
+use Rattle.std.specs.Prelude.{◌≡◌, ℕ, ◌+◌, List, [], ◌∷◌, ◌++◌, Ok, Err, MatchResult, Result}
 use Rattle.std.specs.Borrow.{Bor}
 use Rattle.refusals.specs.Results.{bind_r}
 use Rattle.refusals.specs.declared.cause.Cause.{Cause}
 use Rattle.refusals.specs.declared.place.LineFault.{LineFault}
 
--- the meaning of an item, or the refusal
-abbrev pub value_as : {A B E : Type 0} → (A → B) → Result A E → Result B E
-value_as meaning (Ok x) = Ok (meaning x)
-value_as meaning (Err e) = Err e
-
--- the meaning of the items that were left, or the refusal
-abbrev pub items_as : {A B E : Type 0} → (A → B) → Result (Unit {0}) E → List A → Result (List B) E
-items_as meaning (Ok u) xs = Ok (map meaning xs)
-items_as meaning (Err e) xs = Err e
+-- the items that were left, or the refusal
+abbrev pub items_as : {A E : Type 0} → Result (Unit {0}) E → List A → Result (List A) E
+items_as (Ok u) xs = Ok xs
+items_as (Err e) xs = Err e
 
 -- items before those that were read
 abbrev pub after : {A E : Type 0} → List A → Result (List A) E → Result (List A) E

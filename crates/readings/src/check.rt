@@ -1,8 +1,6 @@
 // The check of a readings file.
 
 ghost use Rattle.std.specs.Prelude.{◌≡◌, ◌≤◌, map, IfOk};
-ghost use Rattle.values.specs.Short.{name_bytes};
-ghost use Rattle.values.specs.Values.{val_of};
 ghost use Rattle.readings.specs.Outcome.{Answers, names_in, cells_in, places_of, places_in};
 
 use crate::table::{Readings, RefusedTable, TableRoom};
@@ -56,14 +54,14 @@ impl Readings {
     }
 
     pub fn names(&self) -> &[Name]
-        ensures { map name_bytes result.now ≡ names_in self.now }
+        ensures { result.now ≡ names_in self.now }
     {
         self.names.as_slice()
     }
 
     // The values of all rows, one row after the other.
     pub fn cells(&self) -> &[Value]
-        ensures { map val_of result.now ≡ cells_in self.now }
+        ensures { result.now ≡ cells_in self.now }
     {
         self.cells.as_slice()
     }

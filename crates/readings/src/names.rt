@@ -1,9 +1,8 @@
 // The line of names.
 
 ghost use Rattle.std.specs.Prelude.{◌≡◌, ◌≤◌, [], map, vec_len, vec_capacity};
-ghost use Rattle.values.specs.Short.{name_bytes};
 ghost use Rattle.readings.specs.Table.{among, fresh_name, names_of};
-ghost use Rattle.readings.specs.Read.{value_as, items_as};
+ghost use Rattle.readings.specs.Read.{items_as};
 
 use crate::line::{count_parts, read_parts};
 use refusals::{Cause, LineFault};
@@ -11,14 +10,14 @@ use spelling::word::{is, name};
 use values::Name;
 
 fn has_name(names: &[Name], s: &[u8]) -> bool
-    ensures { result ≡ among s.now (map name_bytes names.now) }
+    ensures { result ≡ among s.now names.now }
 {
     names.iter().any(|x| is(x.as_bytes(), s))
 }
 
 // A name that is spelled well and new.
 fn fresh_name(s: &[u8], names: &[Name]) -> Result<Name, Cause>
-    ensures { value_as name_bytes result ≡ fresh_name (map name_bytes names.now) s.now }
+    ensures { result ≡ fresh_name names.now s.now }
 {
     let x = name(s).ok_or(Cause::NameMisspelt)?;
     if has_name(names, x.as_bytes()) {
@@ -33,7 +32,7 @@ pub(crate) fn names_line(line: &[u8], names: &mut Vec<Name>) -> Result<(), LineF
     requires empty { names.old.items ≡ [] }
     ensures capacity { vec_capacity names.new ≡ vec_capacity names.old }
     ensures few { vec_len names.new ≤ 64 }
-    ensures value { items_as name_bytes result names.new.items ≡ names_of line.now }
+    ensures value { items_as result names.new.items ≡ names_of line.now }
 {
     if count_parts(line) > 64 {
         return Err(LineFault::from(Cause::TooManyNames));

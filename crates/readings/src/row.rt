@@ -1,7 +1,6 @@
 // One row of a readings file.
 
 ghost use Rattle.std.specs.Prelude.{◌≡◌, take, drop};
-ghost use Rattle.values.specs.Values.{val_of};
 ghost use Rattle.readings.specs.Rows.{map_in, RowIs};
 
 use crate::table::Readings;
@@ -18,7 +17,7 @@ pub struct Row<'a> {
 impl Row<'_> {
     // The value for a name; missing where the row has no such name.
     pub fn look_up(&self, name: &[u8]) -> Value
-        ensures { val_of result ≡ map_in self.now name.now }
+        ensures { result ≡ map_in self.now name.now }
     {
         self.names
             .iter()

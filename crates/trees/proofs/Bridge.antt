@@ -3,7 +3,7 @@ use Rattle.std.proofs.Common.{◌≡◌, ℕ, zero, suc, ◌+◌, ◌-◌, ◌<�
 use Rattle.std.proofs.lemmas.List.{length_push}
 use Rattle.std.specs.List.{AllZip}
 use Rattle.std.proofs.lemmas.List.Elements.{AllZip-push, length_all_zip}
-use Rattle.values.specs.Values.{Val}
+use Rattle.values.specs.declared.value.Value.{Value}
 use Rattle.policy.specs.declared.line.Force.{Force}
 use Rattle.policy.specs.declared.line.Effect.{Effect}
 use Rattle.policy.specs.declared.line.Line.{Line}
@@ -115,13 +115,13 @@ module _ (m : Map) where
   items_with_lem ps qs h (Some n) p q e = same_more _ _ p q (alike_at ps qs h n).held e
 
   -- the part of a line that has read the map's value, if it is an attr line
-  part_alike : (vs : List Val) (n : ℕ) (ps qs : List Part) → EachAlike m ps qs → (x : Line) → read_at vs n ≡ wanted m x (read_at vs n) → Alike m (part_for (known vs) n ps x) (part_for named n qs x)
+  part_alike : (vs : List Value) (n : ℕ) (ps qs : List Part) → EachAlike m ps qs → (x : Line) → read_at vs n ≡ wanted m x (read_at vs n) → Alike m (part_for (known vs) n ps x) (part_for named n qs x)
   part_alike vs n ps qs h (l.Truth b) r = expressions _ _ refl
   part_alike vs n ps qs h (l.Attribute x) r = expressions _ _ r
   part_alike vs n ps qs h (l.Number z) r = expressions _ _ refl
   part_alike vs n ps qs h (l.Text x) r = expressions _ _ refl
   part_alike vs n ps qs h (l.Not j) r = expressions _ _ (ap not_of (alike_at ps qs h j).value)
-  part_alike vs n ps qs h (l.Binary o j k) r = let a = (alike_at ps qs h j).value in let b = (alike_at ps qs h k).value in expressions _ _ (cc)
+  part_alike vs n ps qs h (l.Binary o j k) r = let a = (alike_at ps qs h j).value in let b = (alike_at ps qs h k).value in expressions _ _ cc
   part_alike vs n ps qs h (l.Duty f a e d) r = all-duties _ _ (same_then _ _ f a _ _ (duties_at_lem ps qs h d) (alike_at ps qs h e).value)
   part_alike vs n ps qs h (l.Item p i) r = all-items _ _ (items_with_lem ps qs h i _ _ (alike_at ps qs h p).response)
   part_alike vs n ps qs h (l.Rule e t d) r = policies _ _ (same_rule e _ _ _ _ (alike_at ps qs h t).value (duties_at_lem ps qs h d))
@@ -129,10 +129,10 @@ module _ (m : Map) where
       policies _ _ (same_set c _ _ _ _ _ _ _ _ (alike_at ps qs h t).value (alike_at ps qs h i).held (duties_at_lem ps qs h p) (duties_at_lem ps qs h d))
 
   -- the lines that come after the parts ps have read the map's values
-  abbrev ReadsAfter : List Val → List Part → List Line → Type 0
+  abbrev ReadsAfter : List Value → List Part → List Line → Type 0
   ReadsAfter vs ps ls = (i : ℕ) → i < length ls → read_at vs (length ps + i) ≡ wanted m (get_or ls i (l.Truth false)) (read_at vs (length ps + i))
 
-  parts-alike : (vs : List Val) (ps qs : List Part) (ls : List Line) → EachAlike m ps qs → ReadsAfter vs ps ls → EachAlike m (parts_after (known vs) ps ls) (parts_after named qs ls)
+  parts-alike : (vs : List Value) (ps qs : List Part) (ls : List Line) → EachAlike m ps qs → ReadsAfter vs ps ls → EachAlike m (parts_after (known vs) ps ls) (parts_after named qs ls)
   parts-alike vs ps qs [] h r = h
   parts-alike vs ps qs (x ∷ ls) h r = parts-alike vs (ps ++ p ∷ []) (qs ++ q ∷ []) ls (AllZip-push (Alike m) ps qs p q h alike) later
     where
@@ -155,7 +155,7 @@ module _ (m : Map) where
           subst P e (r (suc i) (omega arith))
 
 -- the policy with its readings in the place of the attributes answers as the policy does over any map that they agree with
-pub known-respond : (ls : List Line) (vs : List Val) (m : Map) → Reads ls vs m → respond nothing (known_policy ls vs) ≡ respond m (policy_of ls)
+pub known-respond : (ls : List Line) (vs : List Value) (m : Map) → Reads ls vs m → respond nothing (known_policy ls vs) ≡ respond m (policy_of ls)
 unfolding parts_of
 known-respond ls vs m h = (alike_at m _ _ (parts-alike m vs (no_part ∷ []) (no_part ∷ []) ls (expressions m _ _ refl, tt) read) (length ls)).response
   where

@@ -6,7 +6,7 @@ use Rattle.std.proofs.lemmas.List.Sums.{sum_by-cons, sum_by_push, sum_by-take-le
 use Rattle.std.proofs.lemmas.List.Concat.{length-flat_map}
 use Rattle.std.proofs.lemmas.Bool.{cases_eq}
 use Rattle.std.proofs.lemmas.Bool.Decides.{nat_tests}
-use Rattle.values.specs.Values.{Val}
+use Rattle.values.specs.declared.value.Value.{Value}
 use Rattle.spelling.specs.declared.algorithm.Strategy.{Strategy}
 use Rattle.operators.specs.Classes.{is_true, is_false, is_missing}
 use Rattle.combining.specs.declared.decision.Decision.{Decision}
@@ -63,7 +63,7 @@ either_few true r s n h k = h
 either_few false r s n h k = k
 
 -- a target adds no duties
-target_few : (v : Val) (r : Response Due) (n : ℕ) → length r.duties ≤ n → length (on_target v r).duties ≤ n
+target_few : (v : Value) (r : Response Due) (n : ℕ) → length r.duties ≤ n → length (on_target v r).duties ≤ n
 target_few v r n h =
     either_few (is_true v) r _ n h (either_few (is_false v || is_missing v) (bare NotApplicable) (bare Indeterminate) n (omega arith) (omega arith))
 

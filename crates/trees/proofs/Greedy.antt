@@ -1,7 +1,7 @@
 -- That a policy with greedy sets answers as if all children were visited, with none or some duties omitted.
 use Rattle.std.proofs.Common.{Bool, true, false, cond, ◌||◌, ◌++◌, subst}
 use Rattle.std.proofs.lemmas.List.Elements.{AllZip-push}
-use Rattle.values.specs.Values.{Val}
+use Rattle.values.specs.declared.value.Value.{Value}
 use Rattle.operators.specs.Classes.{is_true, is_false, is_missing}
 use Rattle.combining.specs.declared.decision.Decision.{Decision}
 use Rattle.combining.specs.declared.decision.Decision.TheVariants.{Permit, Deny, NotApplicable, Indeterminate}
@@ -35,7 +35,7 @@ closed-by_fewer m p d r s h =
     let P : Decision → Type 0 = λ x. Fewer (closed_by m p d r) (closed m p d x s) in
     subst P h.decision (closed-fewer m p d r.decision r s h)
 
-target_fewer : (v : Val) (r s : Response Due) → Fewer r s → Fewer (on_target v r) (on_target v s)
+target_fewer : (v : Value) (r s : Response Due) → Fewer r s → Fewer (on_target v r) (on_target v s)
 target_fewer v r s h = by (is_true v)
   where
     off : Response Due

@@ -1,6 +1,7 @@
 -- Duties: what is to be carried out with an answer.
 use Rattle.std.specs.Prelude.{ℕ, Bool, true, false, ◌&&◌, List, [], ◌∷◌, ◌++◌}
-use Rattle.values.specs.Values.{Val, missing, error, boolean, number, text, numbers, texts, val_of}
+use Rattle.values.specs.declared.value.Value.{Value}
+use Rattle.values.specs.declared.value.Value.TheVariants.{Missing as missing, Error as error, Bool as boolean, Number as number, Text as text, Numbers as numbers, Texts as texts}
 use Rattle.policy.specs.declared.line.Force.{Force}
 use Rattle.trees.specs.declared.duty.Duty.{Duty}
 use Rattle.trees.specs.Expressions.{Expression, Map, value_of}
@@ -14,13 +15,13 @@ pub data Duties : Type 0 where
 pub record Due : Type 0 where
   pub force : Force
   pub action : ℕ
-  pub argument : Val
+  pub argument : Value
 
 abbrev pub due_of : Duty → Due
-due_of d = record { force = d.force; action = d.action; argument = val_of d.argument }
+due_of d = record { force = d.force; action = d.action; argument = d.argument }
 
 -- a boolean, a number or a text fulfils a duty
-abbrev pub fulfils : Val → Bool
+abbrev pub fulfils : Value → Bool
 fulfils missing = false
 fulfils error = false
 fulfils (boolean b) = true

@@ -1,6 +1,6 @@
 -- Policies as trees, and the response of one over a map from names to values.
 use Rattle.std.specs.Prelude.{cond, ◌||◌, List, [], ◌∷◌, ◌++◌}
-use Rattle.values.specs.Values.{Val}
+use Rattle.values.specs.declared.value.Value.{Value}
 use Rattle.spelling.specs.declared.algorithm.Combining.{Combining}
 use Rattle.policy.specs.declared.line.Effect.{Effect}
 use Rattle.policy.specs.declared.line.Effect.TheVariants as effect
@@ -32,7 +32,7 @@ abbrev pub bare : Decision → Response Due
 bare d = record { decision = d; duties = [] }
 
 -- a policy whose target is false or missing is not-app, with any other target but true it is indet
-abbrev pub on_target : Val → Response Due → Response Due
+abbrev pub on_target : Value → Response Due → Response Due
 on_target v r = cond (is_true v) r (cond (is_false v || is_missing v) (bare NotApplicable) (bare Indeterminate))
 
 -- a policy's own duties come after the others; if one of them is not fulfilled the policy is indet

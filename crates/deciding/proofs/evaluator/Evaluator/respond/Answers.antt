@@ -1,5 +1,4 @@
 use Rattle.std.proofs.Common.{List, map, ap, ◌∙◌}
-use Rattle.values.specs.Values.{val_of}
 use Rattle.policy.specs.declared.line.Line.{Line}
 use Rattle.policy.specs.Accepted.{lines_of}
 use Rattle.trees.specs.Policies.{respond}
@@ -9,8 +8,8 @@ use Rattle.deciding.proofs.evaluator.Evaluator.respond.Goals as goal
 
 pub returns-clause-responds : goal.returns-clause-responds
 returns-clause-responds c = λ m r.
-    by_map (lines_of c.args.policy.now) (map val_of c.args.readings.now) m r _ (c.respond.ensures.answer ∙ ap (λ (ls : List Line). respond nothing (known_policy ls (map val_of c.args.readings.now))) c.lines.ensures.value)
+    by_map (lines_of c.args.policy.now) c.args.readings.now m r _ (c.respond.ensures.answer ∙ ap (λ (ls : List Line). respond nothing (known_policy ls c.args.readings.now)) c.lines.ensures.value)
 
 pub returns-clause-greedy : goal.returns-clause-greedy
 returns-clause-greedy c = λ m r.
-    fewer_by_map (lines_of c.args.policy.now) (map val_of c.args.readings.now) m r _ (c.respond.ensures.answer ∙ ap (λ (ls : List Line). respond nothing (known_policy ls (map val_of c.args.readings.now))) c.lines.ensures.value)
+    fewer_by_map (lines_of c.args.policy.now) c.args.readings.now m r _ (c.respond.ensures.answer ∙ ap (λ (ls : List Line). respond nothing (known_policy ls c.args.readings.now)) c.lines.ensures.value)

@@ -1,5 +1,5 @@
 use Rattle.std.proofs.Common.{sym, ap, ◌∙◌, to_z-of_z, w32, SFits, rules}
-use Rattle.values.specs.Values.{val_of, number}
+use Rattle.values.specs.declared.value.Value.TheVariants.{Number as number}
 use Rattle.operators.specs.Operators.{not_of}
 use Rattle.trees.specs.Expressions.{applied}
 use Rattle.deciding.proofs.Meaning.{value_is, no_value}
@@ -24,7 +24,7 @@ returns-in-Not t c = c.not.ensures ∙ ap not_of c.value.ensures ∙ sym (value_
 
 pub returns-in-Binary : goal.returns-in-Binary
 returns-in-Binary t c =
-    c.apply.ensures ∙ ap (λ v. applied c.in-Binary.operator v (val_of c.value-right.result)) c.value-left.ensures ∙ ap (applied c.in-Binary.operator _) c.value-right.ensures
+    c.apply.ensures ∙ ap (λ v. applied c.in-Binary.operator v c.value-right.result) c.value-left.ensures ∙ ap (applied c.in-Binary.operator _) c.value-right.ensures
     ∙ sym (value_is c.args.self.now c.args.number c.requires.low c.requires.high _ c.in-Binary.ensures)
 
 pub returns-in_default : goal.returns-in_default

@@ -1,5 +1,4 @@
 use Rattle.std.proofs.Common.{map, get_or, ap, ◌∙◌, arith}
-use Rattle.values.specs.Values.{val_of}
 use Rattle.trees.specs.Known.{known as known_leaf, nothing}
 use Rattle.trees.proofs.Count.{few_at}
 use Rattle.deciding.specs.Known.{size}
@@ -14,6 +13,6 @@ fill-requires-clause-few c =
     let t = c.respond_all.ensures.kept (size known) s (omega arith) in
     let e = ap (λ i. (get_or c.respond_all.new.self.responses i unset).count) (c.from.ensures ∙ c.last.ensures) in
     let n = means_long _ _ _ t in
-    let f = few_at (known_leaf (map val_of known.readings.now)) known.lines.now known.tree (size known) s (omega arith) nothing in
+    let f = few_at (known_leaf known.readings.now) known.lines.now known.tree (size known) s (omega arith) nothing in
     let w = known.tree.few in
     omega (arith, e, n, f, w)

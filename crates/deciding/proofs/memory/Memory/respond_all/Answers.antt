@@ -1,5 +1,4 @@
 use Rattle.std.proofs.Common.{◌+◌, ◌<◌, ◌≤◌, map, ◌∙◌, arith, rules}
-use Rattle.values.specs.Values.{val_of}
 use Rattle.trees.specs.Known.{known as known_leaf, nothing}
 use Rattle.trees.proofs.Count.{few_at}
 use Rattle.deciding.specs.Known.{size}
@@ -11,7 +10,7 @@ respond_line-decision-requires-clause-room c =
     let known = c.args.known.now in
     let n = c.loop-number.number in
     let hi : n ≤ size known = search rules in
-    let f = few_at (known_leaf (map val_of known.readings.now)) known.lines.now known.tree n (search rules) hi nothing in
+    let f = few_at (known_leaf known.readings.now) known.lines.now known.tree n (search rules) hi nothing in
     let t = known.tree.few in
     let i = c.loop-number.invariant.few in
     let p = c.loop-number.self.number_places in
@@ -22,7 +21,7 @@ loop-number-preserved c =
     let known = c.args.known.now in
     let n = c.loop-number.number in
     let hi : n ≤ size known = search rules in
-    let f = few_at (known_leaf (map val_of known.readings.now)) known.lines.now known.tree n (search rules) hi nothing in
+    let f = few_at (known_leaf known.readings.now) known.lines.now known.tree n (search rules) hi nothing in
     let t = known.tree.few in
     let i = c.loop-number.invariant.few in
     let l = c.respond_line-decision.ensures.responds.adds.len in

@@ -6,21 +6,18 @@ ghost use Rattle.values.specs.Short.{text_bytes};
 ghost use Rattle.values.specs.Values.{val_of};
 ghost use Rattle.operators.specs.Operators.{equal_of, in_of, greater_of, among};
 
-use crate::sides::{given, two_numbers};
+use crate::sides::not_taken;
 use values::{Text, Value};
 
 // Two booleans, two numbers or two texts; no other pair can be compared.
 pub fn equal(a: &Value, b: &Value) -> Value
     ensures { val_of result ≡ equal_of (val_of a.now) (val_of b.now) }
 {
-    if let Err(stop) = given(a, b) {
-        return stop.value();
-    }
     match (a, b) {
         (Value::Bool(x), Value::Bool(y)) => Value::Bool(*x == *y),
         (Value::Number(x), Value::Number(y)) => Value::Bool(*x == *y),
         (Value::Text(x), Value::Text(y)) => Value::Bool(same_text(x, y)),
-        _ => Value::Error,
+        _ => not_taken(a, b),
     }
 }
 
@@ -28,22 +25,19 @@ pub fn equal(a: &Value, b: &Value) -> Value
 pub fn member(a: &Value, b: &Value) -> Value
     ensures { val_of result ≡ in_of (val_of a.now) (val_of b.now) }
 {
-    if let Err(stop) = given(a, b) {
-        return stop.value();
-    }
     match (a, b) {
         (Value::Number(x), Value::Numbers(s)) => Value::Bool(s.as_slice().contains(x)),
         (Value::Text(x), Value::Texts(s)) => Value::Bool(among_texts(x, s.as_slice())),
-        _ => Value::Error,
+        _ => not_taken(a, b),
     }
 }
 
 pub fn greater(a: &Value, b: &Value) -> Value
     ensures { val_of result ≡ greater_of (val_of a.now) (val_of b.now) }
 {
-    match two_numbers(a, b) {
-        Ok((x, y)) => Value::Bool(x > y),
-        Err(stop) => stop.value(),
+    match (a, b) {
+        (Value::Number(x), Value::Number(y)) => Value::Bool(x > y),
+        _ => not_taken(a, b),
     }
 }
 

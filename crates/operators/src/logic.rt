@@ -18,17 +18,11 @@ pub fn and(a: &Value, b: &Value) -> Value
     }
 }
 
-// One true side settles it.
+// One true side settles it: `and` with true and false exchanged, which `not` does; missing and error stay.
 pub fn or(a: &Value, b: &Value) -> Value
     ensures { val_of result ≡ or_of (val_of a.now) (val_of b.now) }
 {
-    match (a, b) {
-        (Value::Bool(true), _) | (_, Value::Bool(true)) => Value::Bool(true),
-        (Value::Bool(false), Value::Bool(false)) => Value::Bool(false),
-        (Value::Missing | Value::Bool(false), Value::Missing | Value::Bool(false)) =>
-            Value::Missing,
-        _ => Value::Error,
-    }
+    not(&and(&not(a), &not(b)))
 }
 
 pub fn not(a: &Value) -> Value

@@ -1,5 +1,5 @@
 -- A line by its words, and a file by its lines.
-use Rattle.std.proofs.Common.{◌≡◌, ℕ, ◌+◌, ◌-◌, List, [], ◌∷◌, ◌++◌, length, take, drop, sum_by, Ok, Result, sym, refl, ap, ◌∙◌, subst, append_assoc, arith, length-append}
+use Rattle.std.proofs.Common.{◌≡◌, ℕ, ◌-◌, List, [], ◌∷◌, ◌++◌, length, take, drop, sum_by, Ok, Result, sym, refl, ap, ◌∙◌, subst, append_assoc}
 use Rattle.std.specs.List.{flat_map}
 use Rattle.std.proofs.lemmas.List.Concat.{length-flat_map}
 use Rattle.refusals.specs.declared.place.Rejection.{Rejection}
@@ -21,9 +21,6 @@ length-rows ls = ap length (rows_flat ls) ∙ length-flat_map line_bytes ls
 -- a word with a space before it
 abbrev pub spaced : List ℕ → List ℕ
 spaced w = 32 ∷ w
-
-pub length-row : (f : Six) → sum_by (λ w. length w + 1) (listed f) ≡ length (row f ++ 10 ∷ [])
-length-row f = simp length-append (omega arith)
 
 -- the words after the first
 abbrev pub later : List (List ℕ) → List (List ℕ)

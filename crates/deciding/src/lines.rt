@@ -1,6 +1,7 @@
 // All lines of a policy, worked from the top.
 
-ghost use Rattle.std.specs.Prelude.{◌≡◌, ◌+◌, ◌≤◌, map, length};
+ghost use Rattle.std.specs.Prelude.{◌≡◌, ◌+◌, ◌≤◌, ◌++◌, map, length, vec_len, vec_capacity};
+ghost use Rattle.trees.specs.Duties.{due_of};
 ghost use Rattle.trees.specs.Policies.{respond as respond_of};
 ghost use Rattle.trees.specs.Known.{known_policy, nothing};
 ghost use Rattle.deciding.specs.Known.{size, read_dues};
@@ -12,6 +13,24 @@ use crate::known::Known;
 use crate::memory::Memory;
 use crate::response::Answer;
 use policy::LineNumber;
+use trees::Duty;
+use values::Value;
+
+impl Known<'_> {
+    // Adds the duties of the lines `numbers`, with their arguments' values.
+    fn fulfil(&self, numbers: &[LineNumber], duties: &mut Vec<Duty>)
+        requires { vec_len duties.old + length numbers.now ≤ vec_capacity duties.old }
+        ensures added { map due_of duties.new.items ≡ map due_of duties.old.items ++ read_dues self.now numbers.now }
+        ensures capacity { vec_capacity duties.new ≡ vec_capacity duties.old }
+    {
+        for number in numbers {
+            let duty = self.duty_at(*number);
+            // The loop gets a proof only where the type of the argument is named.
+            let argument: Value = duty.argument;
+            duties.push_reserved(Duty { argument, ..duty });
+        }
+    }
+}
 
 impl Answer {
     // Becomes a kept response, its duties with their arguments' values.
@@ -23,9 +42,8 @@ impl Answer {
     {
         self.decision = kept.decision;
         self.duties.clear();
-        for number in &numbers[kept.start..kept.start + kept.count] {
-            self.duties.push_reserved(known.duty_at(*number));
-        }
+        let own = &numbers[kept.start..kept.start + kept.count];
+        known.fulfil(own, &mut self.duties);
     }
 }
 

@@ -1,4 +1,4 @@
-use Rattle.std.proofs.Common.{List, map, ap, ◌∙◌}
+use Rattle.std.proofs.Common.{List, ap, ◌∙◌}
 use Rattle.policy.specs.declared.line.Line.{Line}
 use Rattle.policy.specs.Accepted.{lines_of}
 use Rattle.trees.specs.Policies.{respond}

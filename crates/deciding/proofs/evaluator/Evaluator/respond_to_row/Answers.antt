@@ -1,4 +1,4 @@
-use Rattle.std.proofs.Common.{◌≡◌, List, map, vec_items, ap, ◌∙◌, subst, rules}
+use Rattle.std.proofs.Common.{◌≡◌, List, vec_items, ap, ◌∙◌, subst, rules}
 use Rattle.values.specs.declared.value.Value.{Value}
 use Rattle.policy.specs.declared.line.Line.{Line}
 use Rattle.policy.specs.Accepted.{lines_of}

@@ -1,4 +1,4 @@
-use Rattle.std.proofs.Common.{map, get_or, ap, ◌∙◌, arith}
+use Rattle.std.proofs.Common.{get_or, ap, ◌∙◌, arith}
 use Rattle.trees.specs.Known.{known as known_leaf, nothing}
 use Rattle.trees.proofs.Count.{few_at}
 use Rattle.deciding.specs.Known.{size}

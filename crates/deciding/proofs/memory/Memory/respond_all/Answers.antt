@@ -1,4 +1,4 @@
-use Rattle.std.proofs.Common.{◌+◌, ◌<◌, ◌≤◌, map, ◌∙◌, arith, rules}
+use Rattle.std.proofs.Common.{◌+◌, ◌<◌, ◌≤◌, ◌∙◌, arith, rules}
 use Rattle.trees.specs.Known.{known as known_leaf, nothing}
 use Rattle.trees.proofs.Count.{few_at}
 use Rattle.deciding.specs.Known.{size}

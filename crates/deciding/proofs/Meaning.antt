@@ -15,7 +15,8 @@ use Rattle.combining.specs.declared.decision.Decision.{Decision}
 use Rattle.combining.specs.declared.decision.Decision.TheVariants.{Indeterminate}
 use Rattle.trees.specs.Expressions.{value_of}
 use Rattle.combining.specs.Combined.{Response}
-use Rattle.trees.specs.Duties.{Due, none, all_fulfilled, dues_of, fulfils}
+use Rattle.trees.specs.declared.duty.Duty.{Duty}
+use Rattle.trees.specs.Duties.{none, all_fulfilled, dues_of, fulfils}
 use Rattle.trees.specs.Policies.{respond, one, bare, on_target, appended, decision_for}
 use Rattle.trees.specs.Parts.{Part, part_at, part_for, as_expression, as_duties, as_items, as_policy, no_policy}
 use Rattle.trees.specs.Known.{known as known_leaf, nothing}
@@ -34,7 +35,7 @@ height None = 0
 height (Some k) = k + 1
 
 -- the responses of the items before one
-abbrev pub earlier_responses : Known → Option ℕ → List (Response Due)
+abbrev pub earlier_responses : Known → Option ℕ → List (Response Duty)
 earlier_responses known None = []
 earlier_responses known (Some k) = responses_of (items_at known k)
 
@@ -152,19 +153,19 @@ module _ (known : Known) (n : ℕ) (lo : 0 < n) (hi : n ≤ size known) where
       (r.2.0, r.2.1)
 
   -- the response of line n's policy, by what its target's value decides
-  module _ {v : Value} (o : Option Decision) (ends : (x : Response Due) → on_target v x ≡ ended_by o x) where
+  module _ {v : Value} (o : Option Decision) (ends : (x : Response Duty) → on_target v x ≡ ended_by o x) where
     pub rule_is : {e : Effect} {t : ℕ} {d : Option ℕ} → l.Rule e t d ≡ line_of known n → v ≡ value_at known t
         → response_at known n ≡ ended_by o (appended nothing (duties_of known d) (bare (decision_for e)))
     unfolding respond
     rule_is {e} {t} {d} f q =
-        let x : Response Due = appended nothing (duties_of known d) (bare (decision_for e)) in
+        let x : Response Duty = appended nothing (duties_of known d) (bare (decision_for e)) in
         ap (λ y. respond nothing (as_policy y)) (part_is _ f) ∙ ap (λ w. on_target w x) (sym q) ∙ ends x
 
     pub set-line_is : {c : Combining} {t i : ℕ} {p d : Option ℕ} → l.Set c t i p d ≡ line_of known n → v ≡ value_at known t
         → response_at known n ≡ ended_by o (set_response known c i (record { on_permit = p; on_deny = d }))
     unfolding respond
     set-line_is {c} {t} {i} {p} {d} f q =
-        let x : Response Due = set_response known c i (record { on_permit = p; on_deny = d }) in
+        let x : Response Duty = set_response known c i (record { on_permit = p; on_deny = d }) in
         ap (λ y. respond nothing (as_policy y)) (part_is _ f) ∙ ap (λ w. on_target w x) (sym q) ∙ ends x
 
   pub no_response_lem : (x : Line) → x ≡ line_of known n → ((e : Effect) (t : ℕ) (d : Option ℕ) → x ≡ l.Rule e t d → ⊥) → ((c : Combining) (t i : ℕ) (p d : Option ℕ) → x ≡ l.Set c t i p d → ⊥) → response_at known n ≡ bare Indeterminate

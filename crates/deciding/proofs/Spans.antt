@@ -7,7 +7,7 @@ use Rattle.std.proofs.lemmas.List.Elements.{All-nil, All-push}
 use Rattle.combining.specs.declared.decision.Decision.{Decision}
 use Rattle.combining.specs.Decisions.{same_decision}
 use Rattle.combining.specs.Combined.{Response, joined}
-use Rattle.trees.specs.Duties.{Due}
+use Rattle.trees.specs.declared.duty.Duty.{Duty}
 use Rattle.deciding.specs.declared.known.Known.{Known}
 use Rattle.deciding.specs.declared.kept.Kept.{Kept}
 use Rattle.deciding.specs.declared.taken.Taken.{Taken}
@@ -15,11 +15,11 @@ use Rattle.deciding.specs.Room.{Responds}
 use Rattle.deciding.specs.Known.{due_at, read_dues, response_at}
 use Rattle.deciding.specs.Kept.{response_in, Means, no_response, unset, KeptTo, MeanAll, duties_by}
 
-pub kept_less : (n k : ℕ) (known : Known) (ks : List Kept) (os : List Due) → k ≤ n → KeptTo n known ks os → KeptTo k known ks os
+pub kept_less : (n k : ℕ) (known : Known) (ks : List Kept) (os : List Duty) → k ≤ n → KeptTo n known ks os → KeptTo k known ks os
 kept_less n k known ks os h t j lo b = t j lo (omega arith)
 
 -- one more child
-pub mean_more : (ks : List Kept) (k : Kept) (os : List Due) (rs : List (Response Due)) (r : Response Due) → MeanAll ks os rs → Means k os r → MeanAll (ks ++ k ∷ []) os (rs ++ r ∷ [])
+pub mean_more : (ks : List Kept) (k : Kept) (os : List Duty) (rs : List (Response Duty)) (r : Response Duty) → MeanAll ks os rs → Means k os r → MeanAll (ks ++ k ∷ []) os (rs ++ r ∷ [])
 mean_more ks k os rs r a m = record {
   are = map-append (response_in os) ks (k ∷ []) ∙ ap (λ xs. xs ++ response_in os k ∷ []) a.are ∙ ap (λ x. rs ++ x ∷ []) m.is;
   within = All-push (λ (j : Kept). j.start + j.count ≤ length os) ks k a.within m.within;
@@ -36,18 +36,18 @@ response_kept {D} k os xs ws e h =
     let with : List D → Response D = λ ds. record { decision = k.decision; duties = ds } in
     ap (λ zs. response_in zs k) e ∙ ap with (span_kept k.start k.count os xs h)
 
-pub means_kept : (k : Kept) (os xs ws : List Due) (r : Response Due) → ws ≡ os ++ xs → Means k os r → Means k ws r
+pub means_kept : (k : Kept) (os xs ws : List Duty) (r : Response Duty) → ws ≡ os ++ xs → Means k os r → Means k ws r
 means_kept k os xs ws r e t =
     let l : length (os ++ xs) ≡ length os + length xs = length-append os xs in
     let w = t.within in
     let g = ap length e in
     record { is = response_kept k os xs ws e t.within ∙ t.is; within = omega (arith, l, w, g) }
 
-pub kept-grown : (n : ℕ) (known : Known) (ks : List Kept) (os xs ws : List Due) → ws ≡ os ++ xs → KeptTo n known ks os → KeptTo n known ks ws
+pub kept-grown : (n : ℕ) (known : Known) (ks : List Kept) (os xs ws : List Duty) → ws ≡ os ++ xs → KeptTo n known ks os → KeptTo n known ks ws
 kept-grown n known ks os xs ws e t k lo b = means_kept (get_or ks k unset) os xs ws (response_at known k) e (t k lo b)
 
 -- line n's response is kept too
-pub kept_more : (n : ℕ) (known : Known) (ks : List Kept) (os : List Due) (k : Kept) → n < length ks → Means k os (response_at known n)
+pub kept_more : (n : ℕ) (known : Known) (ks : List Kept) (os : List Duty) (k : Kept) → n < length ks → Means k os (response_at known n)
     → KeptTo n known ks os → KeptTo (n + 1) known (set ks n k) os
 kept_more n known ks os k h e t j lo b = by (cases_eq j n)
   where
@@ -60,13 +60,13 @@ kept_more n known ks os k h e t j lo b = by (cases_eq j n)
         let P : Kept → Type 0 = λ x. Means x os (response_at known j) in
         subst P (sym (get_or-set_other ks n j k unset q)) (t j lo (omega (arith, q)))
 
-pub none_means : (os : List Due) → Means no_response os (response_in [] no_response)
+pub none_means : (os : List Duty) → Means no_response os (response_in [] no_response)
 none_means os = record { is = refl; within = omega arith }
 
-pub mean_as : {ks js : List Kept} {os : List Due} {rs qs : List (Response Due)} → js ≡ ks → qs ≡ rs → MeanAll ks os rs → MeanAll js os qs
+pub mean_as : {ks js : List Kept} {os : List Duty} {rs qs : List (Response Duty)} → js ≡ ks → qs ≡ rs → MeanAll ks os rs → MeanAll js os qs
 mean_as {ks} {js} {os} {rs} {qs} e f m =
     let P : List Kept → Type 0 = λ xs. MeanAll xs os rs in
-    let Q : List (Response Due) → Type 0 = λ xs. MeanAll js os xs in
+    let Q : List (Response Duty) → Type 0 = λ xs. MeanAll js os xs in
     subst Q (sym f) (subst P (sym e) m)
 
 pub part_more : {X : Type 0} (s j : ℕ) (ks : List X) (d : X) → s + j < length ks → take (j + 1) (drop s ks) ≡ take j (drop s ks) ++ get_or ks (s + j) d ∷ []
@@ -180,21 +180,21 @@ taken-read {A} {B} f j d os (k ∷ ks) =
     by true false xs zs e g = e
     by false i xs zs e g = g
 
-pub mean_none : (ks : List Kept) (os : List Due) → ks ≡ [] → MeanAll ks os []
+pub mean_none : (ks : List Kept) (os : List Duty) → ks ≡ [] → MeanAll ks os []
 mean_none ks os e = mean_as e refl (record { are = refl; within = All-nil (λ (j : Kept). j.start + j.count ≤ length os) })
 
-part_new : (os xs ws : List Due) (s n : ℕ) → ws ≡ os ++ xs → s ≡ length os → n ≡ length xs → take n (drop s ws) ≡ xs
+part_new : (os xs ws : List Duty) (s n : ℕ) → ws ≡ os ++ xs → s ≡ length os → n ≡ length xs → take n (drop s ws) ≡ xs
 part_new os xs ws s n e hs hn =
     ap (λ t. take n (drop s t)) e ∙ ap (λ t. take n (drop t (os ++ xs))) hs ∙ ap (take n) (drop-append_seam os xs) ∙ take_all n xs (omega (arith, hn))
 
 -- what was just added is a response's span
-pub means_new : {Z : Type 0} (known : Known) (v w : Vec ℕ Z) (r : Response Due) (d : Decision) (s e : ℕ) → length (vec_items v) ≡ vec_len v → length (vec_items w) ≡ vec_len w
+pub means_new : {Z : Type 0} (known : Known) (v w : Vec ℕ Z) (r : Response Duty) (d : Decision) (s e : ℕ) → length (vec_items v) ≡ vec_len v → length (vec_items w) ≡ vec_len w
     → s ≡ vec_len v → e ≡ vec_len w → Responds known v w d r → Means (record { decision = d; start = s; count = e - s }) (read_dues known (vec_items w)) r
 means_new known v w r d s e nv nw hs he a =
     let lv : length (read_dues known (vec_items v)) ≡ length (vec_items v) = length-map (vec_items v) (due_at known) in
     let lw : length (read_dues known (vec_items w)) ≡ length (vec_items w) = length-map (vec_items w) (due_at known) in
     let l = a.adds.len in
-    let R : Decision → List Due → Response Due = λ x ds. record { decision = x; duties = ds } in
+    let R : Decision → List Duty → Response Duty = λ x ds. record { decision = x; duties = ds } in
     record {
       is = ap (λ ds. R d ds) (part_new (read_dues known (vec_items v)) r.duties (read_dues known (vec_items w)) s (e - s) a.adds.items (omega (arith, lv, nv, hs)) (omega (arith, l, hs, he))) ∙ ap (λ x. R x r.duties) a.decides;
       within = omega (arith, lw, nw, l, hs, he);
@@ -210,5 +210,5 @@ kept_next known n i ks js v w d s e ek ei h nv nw hs he r t =
     subst P (sym (ap (λ xs. set xs i k) ek ∙ ap (λ j. set ks j k) ei))
     (kept_more n known ks _ k h (means_new known v w _ d s e nv nw hs he r) (kept-grown n known ks (read_dues known (vec_items v)) _ _ r.adds.items t))
 
-pub means_long : (k : Kept) (os : List Due) (r : Response Due) → Means k os r → length r.duties ≡ k.count
-means_long k os r t = ap (λ (x : Response Due). length x.duties) (sym t.is) ∙ part_long k.start k.count os t.within
+pub means_long : (k : Kept) (os : List Duty) (r : Response Duty) → Means k os r → length r.duties ≡ k.count
+means_long k os r t = ap (λ (x : Response Duty). length x.duties) (sym t.is) ∙ part_long k.start k.count os t.within

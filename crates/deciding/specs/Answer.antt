@@ -1,14 +1,14 @@
 -- The answer of a whole policy.
 use Rattle.std.specs.Prelude.{ℕ, ◌≤◌, map, vec_items, vec_capacity}
 use Rattle.combining.specs.Combined.{Response}
-use Rattle.trees.specs.Duties.{Due, due_of}
+use Rattle.trees.specs.declared.duty.Duty.{Duty}
 use Rattle.deciding.specs.declared.response.Answer.{Answer}
 use Rattle.deciding.specs.declared.evaluator.Evaluator.{Evaluator}
 use Rattle.deciding.specs.declared.memory.Memory.{Memory}
 
 -- the response that an answer holds
-abbrev pub response_of : Answer → Response Due
-response_of a = record { decision = a.decision; duties = map due_of (vec_items a.duties) }
+abbrev pub response_of : Answer → Response Duty
+response_of a = record { decision = a.decision; duties = (vec_items a.duties) }
 
 -- how many duties an answer has places for
 abbrev pub answer_places : Answer → ℕ

@@ -2,7 +2,7 @@
 
 ghost use Rattle.std.specs.Prelude.{◌≡◌, ℕ, ◌+◌, ◌<◌, ◌≤◌, List, [], ◌∷◌, ◌++◌, map, length, vec_len, vec_capacity};
 ghost use Rattle.combining.specs.Combined.{Response};
-ghost use Rattle.trees.specs.Duties.{Due};
+ghost use Rattle.trees.specs.declared.duty.Duty.{Duty};
 ghost use Rattle.trees.specs.Policies.{combined_by};
 ghost use Rattle.deciding.specs.Known.{size, items_at, responses_of};
 ghost use Rattle.deciding.specs.Kept.{KeptTo, MeanAll, response_in, taken_from, all_within};
@@ -27,7 +27,7 @@ pub(crate) fn list_children(
     requires low { 0 < last }
     requires high { last ≤ size known.now }
     requires room { vec_len children.old + last ≤ vec_capacity children.old }
-    ensures children { (os : List Due) (rs : List (Response Due)) → KeptTo last known.now responses.now os → MeanAll children.old.items os rs → MeanAll children.new.items os (rs ++ responses_of (items_at known.now last)) }
+    ensures children { (os : List Duty) (rs : List (Response Duty)) → KeptTo last known.now responses.now os → MeanAll children.old.items os rs → MeanAll children.new.items os (rs ++ responses_of (items_at known.now last)) }
     ensures len { vec_len children.new ≤ vec_len children.old + last }
     ensures cap { vec_capacity children.new ≡ vec_capacity children.old }
 {
@@ -45,7 +45,7 @@ pub(crate) fn list_children(
 // What a set takes from its children, of which there are one or more.
 pub(crate) fn combine_children(combining: Combining, children: &[Kept]) -> Taken<'_>
     requires { 0 < length children.now }
-    ensures combines { (os : List Due) (r : Response Due) (rs : List (Response Due)) → map (response_in os) children.now ≡ r ∷ rs → combined_by combining r rs ≡ taken_from result os }
+    ensures combines { (os : List Duty) (r : Response Duty) (rs : List (Response Duty)) → map (response_in os) children.now ≡ r ∷ rs → combined_by combining r rs ≡ taken_from result os }
     ensures within { (n : ℕ) → all_within n children.now → all_within n result.children.now }
 {
     let combined = combine(

@@ -1,7 +1,7 @@
 // The duties that a policy has of its own.
 
 ghost use Rattle.std.specs.Prelude.{◌≡◌};
-ghost use Rattle.trees.specs.Duties.{all_fulfilled, dues_of, due_of};
+ghost use Rattle.trees.specs.Duties.{all_fulfilled, dues_of};
 ghost use Rattle.trees.specs.Known.{nothing};
 ghost use Rattle.deciding.specs.Known.{size, duties_of, due_at, Within};
 ghost use Rattle.deciding.specs.Room.{Room, Adds};
@@ -53,7 +53,7 @@ impl Known<'_> {
 
     // The duty of a line, with its argument's value; for a line of another kind, a duty that nobody has.
     pub(crate) fn duty_at(&self, number: LineNumber) -> Duty
-        ensures { due_of result ≡ due_at self.now number }
+        ensures { result ≡ due_at self.now number }
     {
         let place = usize::from(number).saturating_sub(1);
         if let Some(line) = self.lines.get(place) {

@@ -2,7 +2,7 @@
 
 ghost use Rattle.std.specs.Prelude.{◌≡◌, ◌<◌, ◌≤◌};
 ghost use Rattle.combining.specs.Combined.{Response};
-ghost use Rattle.trees.specs.Duties.{Due};
+ghost use Rattle.trees.specs.declared.duty.Duty.{Duty};
 ghost use Rattle.trees.specs.Policies.{decision_for, on_target};
 ghost use Rattle.deciding.specs.Known.{size, response_at, read_dues, Within};
 ghost use Rattle.deciding.specs.Kept.{KeptTo, set_response, ended_by};
@@ -21,7 +21,7 @@ use values::Value;
 
 // What a target decides by itself; none where it is true.
 fn ended_by(target: &Value) -> Option<Decision>
-    ensures { (x : Response Due) → on_target target.now x ≡ ended_by result x }
+    ensures { (x : Response Duty) → on_target target.now x ≡ ended_by result x }
 {
     match target {
         Value::Bool(true) => None,

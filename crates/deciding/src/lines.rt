@@ -1,7 +1,6 @@
 // All lines of a policy, worked from the top.
 
 ghost use Rattle.std.specs.Prelude.{◌≡◌, ◌+◌, ◌≤◌, ◌++◌, map, length, vec_len, vec_capacity};
-ghost use Rattle.trees.specs.Duties.{due_of};
 ghost use Rattle.trees.specs.Policies.{respond as respond_of};
 ghost use Rattle.trees.specs.Known.{known_policy, nothing};
 ghost use Rattle.deciding.specs.Known.{size, read_dues};
@@ -20,7 +19,7 @@ impl Known<'_> {
     // Adds the duties of the lines `numbers`, with their arguments' values.
     fn fulfil(&self, numbers: &[LineNumber], duties: &mut Vec<Duty>)
         requires { vec_len duties.old + length numbers.now ≤ vec_capacity duties.old }
-        ensures added { map due_of duties.new.items ≡ map due_of duties.old.items ++ read_dues self.now numbers.now }
+        ensures added { duties.new.items ≡ duties.old.items ++ read_dues self.now numbers.now }
         ensures capacity { vec_capacity duties.new ≡ vec_capacity duties.old }
     {
         for number in numbers {

@@ -6,7 +6,6 @@ ghost use Rattle.policy.specs.Accepted.{lines_of};
 ghost use Rattle.readings.specs.Rows.{map_in};
 ghost use Rattle.combining.specs.Fewer.{Fewer};
 ghost use Rattle.trees.specs.Expressions.{Map};
-ghost use Rattle.trees.specs.Duties.{due_of};
 ghost use Rattle.trees.specs.Policies.{respond as respond_of};
 ghost use Rattle.trees.specs.Parts.{policy_of};
 ghost use Rattle.trees.specs.AllVisited.{all_visited};
@@ -43,7 +42,7 @@ impl Answer {
     }
 
     pub fn duties(&self) -> &[Duty]
-        ensures { map due_of result.now ≡ (response_of self.now).duties }
+        ensures { result.now ≡ (response_of self.now).duties }
     {
         self.duties.as_slice()
     }

@@ -14,7 +14,8 @@ use Rattle.combining.specs.declared.decision.Decision.{Decision}
 use Rattle.combining.specs.declared.decision.Decision.TheVariants.{Permit, Deny, NotApplicable, Indeterminate}
 use Rattle.combining.specs.Combined.{Response}
 use Rattle.trees.specs.Expressions.{Expression, Map, value_of}
-use Rattle.trees.specs.Duties.{Duties, Due, none, then, all_fulfilled, dues_of}
+use Rattle.trees.specs.declared.duty.Duty.{Duty}
+use Rattle.trees.specs.Duties.{Duties, none, then, all_fulfilled, dues_of}
 use Rattle.trees.specs.Policies.{Policy, rule, set, Items, one, more, respond, first, rest, on_target, appended, closed, closed_by, combined_by}
 use Rattle.trees.specs.Parts.{Part, expression, duties, items, policy, no_policy, no_part, as_expression, as_duties, as_items, as_policy, part_at, duties_at, items_with, part_for, parts_after, parts_of, named, policy_of}
 use Rattle.trees.specs.Known.{read_at, known, known_policy, nothing, wanted, Reads}
@@ -75,10 +76,10 @@ module _ (m : Map) where
   unfolding respond
   same_more is js p q h e = record { head = h.head; tail = cc }
 
-  same_appended : (ds es : Duties) (r : Response Due) → SameDuties m ds es → appended nothing ds r ≡ appended m es r
+  same_appended : (ds es : Duties) (r : Response Duty) → SameDuties m ds es → appended nothing ds r ≡ appended m es r
   same_appended ds es r h = cc
 
-  same_closed : (ds es fs gs : Duties) → SameDuties m ds es → SameDuties m fs gs → (d : Decision) (r : Response Due) → closed nothing ds fs d r ≡ closed m es gs d r
+  same_closed : (ds es fs gs : Duties) → SameDuties m ds es → SameDuties m fs gs → (d : Decision) (r : Response Duty) → closed nothing ds fs d r ≡ closed m es gs d r
   same_closed ds es fs gs h k Permit r = same_appended ds es r h
   same_closed ds es fs gs h k Deny r = same_appended fs gs r k
   same_closed ds es fs gs h k NotApplicable r = refl

@@ -11,15 +11,6 @@ pub data Duties : Type 0 where
   none : Duties
   then : Duties → Force → ℕ → Expression → Duties
 
--- a duty of a response: its argument has been evaluated
-pub record Due : Type 0 where
-  pub force : Force
-  pub action : ℕ
-  pub argument : Value
-
-abbrev pub due_of : Duty → Due
-due_of d = record { force = d.force; action = d.action; argument = d.argument }
-
 -- a boolean, a number or a text fulfils a duty
 abbrev pub fulfils : Value → Bool
 fulfils missing = false
@@ -34,6 +25,7 @@ abbrev pub all_fulfilled : Map → Duties → Bool
 all_fulfilled m none = true
 all_fulfilled m (then ds force action e) = all_fulfilled m ds && fulfils (value_of m e)
 
-abbrev pub dues_of : Map → Duties → List Due
+-- the duties with their arguments evaluated
+abbrev pub dues_of : Map → Duties → List Duty
 dues_of m none = []
 dues_of m (then ds force action e) = dues_of m ds ++ record { force = force; action = action; argument = value_of m e } ∷ []

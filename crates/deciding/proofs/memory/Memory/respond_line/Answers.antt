@@ -1,6 +1,6 @@
 use Rattle.std.proofs.Common.{Some, None, sym, ap, ◌∙◌}
 use Rattle.combining.specs.Combined.{Response}
-use Rattle.trees.specs.Duties.{Due}
+use Rattle.trees.specs.declared.duty.Duty.{Duty}
 use Rattle.trees.specs.Policies.{appended, bare}
 use Rattle.trees.specs.Known.{nothing}
 use Rattle.deciding.specs.Known.{duties_of}
@@ -12,7 +12,7 @@ pub close-requires-clause-room : goal.close-requires-clause-room
 close-requires-clause-room c =
     let known = c.args.known.now in
     room_as c.args.self.now.numbers _ _
-    (ap (λ (r : Response Due). r.duties) (rule_is known c.args.number c.requires.low c.requires.high None (λ x. c.in-None.ensures x) c.in-Rule.ensures c.value-target.ensures
+    (ap (λ (r : Response Duty). r.duties) (rule_is known c.args.number c.requires.low c.requires.high None (λ x. c.in-None.ensures x) c.in-Rule.ensures c.value-target.ensures
     ∙ ap (λ d. appended nothing (duties_of known c.in-Rule.duty) (bare d)) (sym c.effect_decision.ensures)))
     c.requires.room
 
@@ -25,7 +25,7 @@ respond_set-requires-clause-denies c = (set-within c.args.known.now c.args.numbe
 pub respond_set-requires-clause-room : goal.respond_set-requires-clause-room
 respond_set-requires-clause-room c =
     room_as c.args.self.now.numbers _ _
-    (ap (λ (r : Response Due). r.duties) (set-line_is c.args.known.now c.args.number c.requires.low c.requires.high None (λ x. c.in-None-ended_by.ensures x) c.in-Set.ensures c.value-target-in-Set.ensures))
+    (ap (λ (r : Response Duty). r.duties) (set-line_is c.args.known.now c.args.number c.requires.low c.requires.high None (λ x. c.in-None-ended_by.ensures x) c.in-Set.ensures c.value-target-in-Set.ensures))
     c.requires.room
 
 pub returns-in-Some-clause-responds : goal.returns-in-Some-clause-responds

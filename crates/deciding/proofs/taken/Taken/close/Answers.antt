@@ -1,7 +1,8 @@
 use Rattle.std.proofs.Common.{◌≡◌, map, length, vec_items, sym, refl, ap, arith, rules}
 use Rattle.std.proofs.lemmas.List.{length-map}
 use Rattle.combining.specs.Combined.{Response}
-use Rattle.trees.specs.Duties.{Due, dues_of}
+use Rattle.trees.specs.declared.duty.Duty.{Duty}
+use Rattle.trees.specs.Duties.{dues_of}
 use Rattle.trees.specs.Known.{nothing}
 use Rattle.deciding.specs.Known.{due_at, read_dues, duties_of}
 use Rattle.deciding.specs.Kept.{taken_from}
@@ -18,7 +19,7 @@ add_duties-requires-clause-room c =
     let e = ap length (taken-read (due_at known) t.joins t.decision ns t.children.now) in
     let n : length (map (due_at known) (taken_from t ns).duties) ≡ length (taken_from t ns).duties = length-map (taken_from t ns).duties (due_at known) in
     let r = room_first c.args.numbers.now (taken_from t (read_dues known ns)).duties (dues_of nothing (duties_of known c.args.last)) _
-    (ap (λ (x : Response Due). x.duties) (appended-all nothing (duties_of known c.args.last) (taken_from t (read_dues known ns)) (sym c.if-not-all_fulfilled.ensures))) c.requires.room in
+    (ap (λ (x : Response Duty). x.duties) (appended-all nothing (duties_of known c.args.last) (taken_from t (read_dues known ns)) (sym c.if-not-all_fulfilled.ensures))) c.requires.room in
     omega (arith, e, n, r)
 
 pub add_chain-requires-clause-room : goal.add_chain-requires-clause-room
@@ -27,7 +28,7 @@ add_chain-requires-clause-room c =
     let t = c.args.self.now in
     let ns = vec_items c.args.numbers.now in
     room_second known c.args.numbers.now c.add_duties.new.numbers _ _ _
-    (ap (λ (x : Response Due). x.duties) (appended-all nothing (duties_of known c.args.last) (taken_from t (read_dues known ns)) (sym c.if-not-all_fulfilled.ensures)))
+    (ap (λ (x : Response Duty). x.duties) (appended-all nothing (duties_of known c.args.last) (taken_from t (read_dues known ns)) (sym c.if-not-all_fulfilled.ensures)))
     (adds_read known c.args.numbers.now c.add_duties.new.numbers _ _ (search rules) (search rules) c.add_duties.ensures.items c.add_duties.ensures.cap (taken-read (due_at known) t.joins t.decision ns t.children.now))
     c.requires.room
 

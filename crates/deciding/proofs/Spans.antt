@@ -1,11 +1,14 @@
 -- Kept responses, and the spans of duties that they stand for.
 use Rattle.std.proofs.Common.{◌≡◌, ℕ, ◌+◌, ◌-◌, ◌<◌, ◌≤◌, Bool, true, false, cond, ◌⊎◌, List, [], ◌∷◌, ◌++◌, map, length, get_or, take, drop, set, vec_items, vec_len, Vec, sym, refl, ap, ◌∙◌, subst, inl, inr, append_assoc, arith, length-append, length-drop, drop-cons, add-one, get_or-set_other, get_or-set_same}
 use lib.Seq.{drop-append_seam}
+use denote.Enum.Bare.{sameb}
 use Rattle.std.proofs.lemmas.Bool.{cases_eq}
 use Rattle.std.proofs.lemmas.List.{map-append, take-append-le, drop-append-le, length-map, length-take-le, take_all, take-map, drop-map, take_more, take-append-drop, get_or-drop, get_or_append_left}
 use Rattle.std.proofs.lemmas.List.Elements.{All-nil, All-push}
 use Rattle.combining.specs.declared.decision.Decision.{Decision}
+use Rattle.combining.specs.contracts.decision.Decision.{the_type}
 use Rattle.combining.specs.Decisions.{same_decision}
+use Rattle.combining.specs.Merging.{sameb-same_decision}
 use Rattle.combining.specs.Combined.{Response, joined}
 use Rattle.trees.specs.declared.duty.Duty.{Duty}
 use Rattle.deciding.specs.declared.known.Known.{Known}
@@ -13,7 +16,7 @@ use Rattle.deciding.specs.declared.kept.Kept.{Kept}
 use Rattle.deciding.specs.declared.taken.Taken.{Taken}
 use Rattle.deciding.specs.Room.{Responds}
 use Rattle.deciding.specs.Known.{due_at, read_dues, response_at}
-use Rattle.deciding.specs.Kept.{response_in, Means, no_response, unset, KeptTo, MeanAll, duties_by}
+use Rattle.deciding.specs.Kept.{response_in, Means, no_response, unset, KeptTo, all_within, MeanAll, duties_by}
 
 pub kept_less : (n k : ℕ) (known : Known) (ks : List Kept) (os : List Duty) → k ≤ n → KeptTo n known ks os → KeptTo k known ks os
 kept_less n k known ks os h t j lo b = t j lo (omega arith)
@@ -110,7 +113,11 @@ taken_cons true d r rs = by (same_decision d r.decision)
     by false = refl
 taken_cons false d r rs = refl
 
-module _ (t : Taken) (i : ℕ) (os ws : List ℕ) (h : i < length t.children.now) (a : Taking t i os ws) where
+-- what the derived comparison of two decisions answers
+pub same_as : (x b : Bool) (d e : Decision) → x ≡ sameb the_type d e → x ≡ b → same_decision d e ≡ b
+same_as x b d e q s = sym (sameb-same_decision d e) ∙ sym q ∙ s
+
+module _ (t : Taken) (i n : ℕ) (os ws : List ℕ) (h : i < length t.children.now) (a : Taking t i os ws) (l : length os ≡ n) (within : all_within n t.children.now) where
   abbrev child : Kept
   child = get_or t.children.now i unset
 
@@ -131,15 +138,21 @@ module _ (t : Taken) (i : ℕ) (os ws : List ℕ) (h : i < length t.children.now
   parts : ws ≡ os ++ drop (length os) ws
   parts = sym (take-append-drop (length os) ws) ∙ ap (λ xs. xs ++ drop (length os) ws) a.grown
 
-  pub longer : length os ≤ length ws
+  longer : length os ≤ length ws
   longer = let q = ap length parts in let n = length-append os (drop (length os) ws) in omega (arith, q, n)
 
-  module _ (s : same_decision t.decision child.decision ≡ true) (w : child.start + child.count ≤ length os) where
+  pub span_within : child.start + child.count ≤ length ws
+  span_within = let w = within i unset h in let m = longer in omega (arith, w, m, l)
+
+  module _ (s : same_decision t.decision child.decision ≡ true) where
+    span_old : child.start + child.count ≤ length os
+    span_old = let w = within i unset h in omega (arith, w, l)
+
     taken_is : (j : Bool) → t.joins ≡ j → taken_rest t i os ≡ cond j (span os ++ taken_rest t (i + 1) os) (span os)
     taken_is j e = rest_is ∙ ap (λ b. cond b (cond t.joins (span os ++ taken_rest t (i + 1) os) (span os)) (taken_rest t (i + 1) os)) s ∙ ap (λ b. cond b (span os ++ taken_rest t (i + 1) os) (span os)) e
 
     span_same : span ws ≡ span os
-    span_same = ap span parts ∙ span_kept child.start child.count os (drop (length os) ws) w
+    span_same = ap span parts ∙ span_kept child.start child.count os (drop (length os) ws) span_old
 
     pub taking_joined : (vs : List ℕ) → t.joins ≡ true → vs ≡ ws ++ span ws → Taking t (i + 1) os vs
     taking_joined vs e f =
@@ -155,7 +168,7 @@ module _ (t : Taken) (i : ℕ) (os ws : List ℕ) (h : i < length t.children.now
     span_fits =
         let n = ap length a.items in
         let q : length (ws ++ taken_rest t i os) ≡ length ws + length (taken_rest t i os) = length-append ws (taken_rest t i os) in
-        let p = part_long child.start child.count os w in
+        let p = part_long child.start child.count os span_old in
         let m = by t.joins refl in
         omega (arith, n, q, p, m)
       where

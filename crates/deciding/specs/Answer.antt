@@ -1,5 +1,5 @@
 -- The answer of a whole policy.
-use Rattle.std.specs.Prelude.{ℕ, ◌≤◌, map, vec_items, vec_capacity}
+use Rattle.std.specs.Prelude.{ℕ, ◌≤◌, vec_items, vec_capacity}
 use Rattle.combining.specs.Combined.{Response}
 use Rattle.trees.specs.declared.duty.Duty.{Duty}
 use Rattle.deciding.specs.declared.response.Answer.{Answer}

@@ -2,4 +2,3 @@ pub mod Filled
 pub mod Options
 pub mod Short
 pub mod Sets
-pub mod Values

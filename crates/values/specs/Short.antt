@@ -18,9 +18,3 @@ name_for xs = fitting 24 xs
 -- a text has at most 16 bytes
 abbrev pub text_for : List ℕ → Option Text
 text_for xs = fitting 16 xs
-
-abbrev pub name_bytes : Name → List ℕ
-name_bytes x = x
-
-abbrev pub text_bytes : Text → List ℕ
-text_bytes x = x

@@ -21,6 +21,7 @@ pub struct OwnDuties {
 
 impl Known<'_> {
     // Whether the duties of a chain, which ends at line `last`, all have an argument that fulfils them.
+    // A recursion, since each duty names the one before it.
     pub(crate) fn all_fulfilled(&self, last: Option<LineNumber>) -> bool
         requires within { Within (size self.now) last }
         ensures { result ≡ all_fulfilled nothing (duties_of self.now last) }

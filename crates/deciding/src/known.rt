@@ -17,6 +17,7 @@ pub struct Known<'a> {
 }
 
 impl Known<'_> {
+    // That a line number lies within is asked of each call here, since it is about two values: the number and these lines.
     pub(crate) fn line(&self, number: LineNumber) -> Line
         requires low { 0 < number }
         requires high { number ≤ length self.now.lines.now }

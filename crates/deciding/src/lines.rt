@@ -47,7 +47,7 @@ impl Answer {
 }
 
 impl Memory {
-    // Keeps the response of each line.
+    // Keeps the response of each line. By number, since a response is kept at its line's number, and lines name one another by it.
     fn respond_all(&mut self, known: &Known)
         ensures kept { KeptTo (size known.now + 1) known.now self.new.responses (read_dues known.now self.new.numbers.items) }
         ensures places { memory_places self.new ≡ memory_places self.old }

@@ -11,6 +11,7 @@ use operators::{add, and, div, equal, greater, member, mul, not, or, sub};
 use policy::{Line, LineNumber, Operator};
 use values::Value;
 
+// A match and no table of functions: each arm calls another operator, and the match stays whole when one is added.
 #[tactic(auto, unfolding(trees::specs::Expressions::applied))]
 fn apply(operator: Operator, a: &Value, b: &Value) -> Value
     ensures { result ≡ applied operator a.now b.now }

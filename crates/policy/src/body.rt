@@ -65,6 +65,7 @@ impl Draft {
     }
 
     // The lines after line 0, at most 256.
+    // No `for` over `split`, which would also give what follows the last byte 10, and tell no longer whether that byte is there.
     fn read_body(&mut self, body: &[u8]) -> Result<(), Rejection>
         ensures value { with_lines result self.new.lines.items ≡ body_of (256 - length self.old.lines.items) self.old.lines.items self.old.named body.now }
         ensures capacity { vec_capacity self.new.lines ≡ vec_capacity self.old.lines }

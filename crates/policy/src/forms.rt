@@ -88,6 +88,7 @@ impl Draft {
         Ok(Line::Set(combining, target, items, on_permit, on_deny))
     }
 
+    // A match on the kind, since each kind has other fields; closures for them would only be called here.
     fn line_of_kind(&mut self, kind: Kind, fields: &Fields) -> Result<Line, LineFault>
         ensures value { marking result self.new.named ≡ line_for kind self.old.lines.items self.old.named (seen fields.now) }
         ensures lines { self.new.lines ≡ self.old.lines }

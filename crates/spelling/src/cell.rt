@@ -79,6 +79,7 @@ impl Member for Text {
 }
 
 // The members of `set` and those that `s` spells, joined by commas.
+// A recursion over one cut, as the definitions of parts are: a `for` over `split` in a generic function gets no proof.
 fn more<T: Member>(s: &[u8], set: Few<T>) -> Option<Few<T>>
     requires { FitsInMemory (few_row T.row) }
     ensures { result ≡ bind (read_all T.spelt (parts 44 s.now)) (λ xs. at_most_eight (set ++ xs)) }

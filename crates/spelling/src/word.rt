@@ -6,6 +6,7 @@ ghost use Rattle.spelling.specs.Words.{is_letter, is_word_byte, all_word_bytes, 
 
 use values::{Name, Text};
 
+// In place of `==`, which between bytes and a literal asks for `.as_slice()` after the literal.
 pub fn is(s: &[u8], word: &[u8]) -> bool
     ensures { result ≡ bytes_eq s.now word.now }
 {

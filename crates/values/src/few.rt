@@ -8,7 +8,7 @@ use std::alloc::AllocError;
 use std::marker::Model;
 
 // The first `len` places of `items`; the places after them repeat the first member.
-// No Vec, since values are copied where nothing may allocate.
+// No Vec, since values are copied where nothing may allocate, and no `Short`, which may be empty and has zeros to fill up with.
 #[derive(Copy)]
 pub struct Few<T> {
     items: [T; 8],

@@ -1,5 +1,6 @@
 -- What a set makes of its children's responses.
 use Rattle.std.specs.Prelude.{ℕ, Bool, false, cond, List, [], ◌∷◌, ◌++◌, map, length, take}
+use Rattle.std.specs.List.{flat_map}
 use Rattle.spelling.specs.declared.algorithm.Strategy.{Strategy}
 use Rattle.spelling.specs.declared.algorithm.Strategy.TheVariants.{All, Greedy}
 use Rattle.combining.specs.declared.decision.Decision.{Decision}
@@ -30,8 +31,7 @@ taken d r = cond (same_decision d r.decision) r.duties []
 
 -- those of all children with the decision d, in order
 abbrev pub joined : {D : Type 0} → Decision → List (Response D) → List D
-joined d [] = []
-joined d (r ∷ rs) = taken d r ++ joined d rs
+joined d rs = flat_map (taken d) rs
 
 -- those of the first child with the decision d
 abbrev pub first_taken : {D : Type 0} → Decision → List (Response D) → List D

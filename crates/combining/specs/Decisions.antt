@@ -1,5 +1,6 @@
 -- The four decisions, and questions about lists of them.
 use Rattle.std.specs.Prelude.{ℕ, Bool, true, false, cond, List, [], ◌∷◌, codes}
+use Rattle.std.specs.List.{list_any}
 use Rattle.combining.specs.declared.decision.Decision.{Decision}
 use Rattle.combining.specs.declared.decision.Decision.TheVariants.{Permit, Deny, NotApplicable, Indeterminate}
 
@@ -40,18 +41,10 @@ same_decision Deny d = is_deny d
 same_decision NotApplicable d = is_not_applicable d
 same_decision Indeterminate d = is_indeterminate d
 
-abbrev pub any : (Decision → Bool) → List Decision → Bool
-any p [] = false
-any p (d ∷ ds) = cond (p d) true (any p ds)
-
-abbrev pub all : (Decision → Bool) → List Decision → Bool
-all p [] = true
-all p (d ∷ ds) = cond (p d) (all p ds) false
-
 -- at least two
 abbrev pub two : (Decision → Bool) → List Decision → Bool
 two p [] = false
-two p (d ∷ ds) = cond (p d) (any p ds) (two p ds)
+two p (d ∷ ds) = cond (p d) (list_any p ds) (two p ds)
 
 -- how a decision is written
 abbrev pub decision_word : Decision → List ℕ

@@ -1,5 +1,6 @@
 -- Responses that differ in omitted duties only.
 use Rattle.std.specs.Prelude.{◌≡◌, ◌⊎◌, List, [], ◌∷◌}
+use Rattle.std.specs.List.{AllZip}
 use Rattle.combining.specs.Combined.{Response}
 
 -- the first list is the second with none or some omitted, order kept
@@ -15,7 +16,4 @@ pub record Fewer {D : Type 0} (r s : Response D) : Type 0 where
 
 -- so child by child
 abbrev pub EachFewer : {D : Type 0} → List (Response D) → List (Response D) → Type 0
-EachFewer [] [] = Unit {0}
-EachFewer [] (s ∷ ss) = ⊥
-EachFewer (r ∷ rs) [] = ⊥
-EachFewer (r ∷ rs) (s ∷ ss) = Fewer r s × EachFewer rs ss
+EachFewer rs ss = AllZip Fewer rs ss

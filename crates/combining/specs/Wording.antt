@@ -1,10 +1,11 @@
 -- The combining algorithms, in words over the children's decisions.
 use Rattle.std.specs.Prelude.{◌≡◌, Bool, true, false, cond, not, ◌&&◌, ◌||◌, List, [], ◌∷◌, ◌++◌}
+use Rattle.std.specs.List.{list_any, list_all}
 use Rattle.spelling.specs.declared.algorithm.Algorithm.{Algorithm}
 use Rattle.spelling.specs.declared.algorithm.Algorithm.TheVariants.{PermitOverrides, DenyOverrides, DenyUnlessPermit, PermitUnlessDeny, FirstApplicable, OneApplicable, WeakConsensus, StrongConsensus}
 use Rattle.combining.specs.declared.decision.Decision.{Decision}
 use Rattle.combining.specs.declared.decision.Decision.TheVariants.{Permit, Deny, NotApplicable, Indeterminate}
-use Rattle.combining.specs.Decisions.{is_permit, is_deny, is_not_applicable, is_indeterminate, is_effect, any, all, two}
+use Rattle.combining.specs.Decisions.{is_permit, is_deny, is_not_applicable, is_indeterminate, is_effect, two}
 
 -- an algorithm: the decision on its children's decisions, the decisions that no further child can change,
 -- and whether the duties of all children with the decision are joined or only the first one's are taken
@@ -15,7 +16,7 @@ pub record Wording : Type 0 where
 
 -- permit or deny if any child gives it, else not-app
 abbrev pub given : List Decision → Decision
-given ds = cond (any is_permit ds) Permit (cond (any is_deny ds) Deny NotApplicable)
+given ds = cond (list_any is_permit ds) Permit (cond (list_any is_deny ds) Deny NotApplicable)
 
 -- the first that isn't not-app, else not-app
 abbrev pub first_applicable : List Decision → Decision
@@ -25,18 +26,18 @@ first_applicable (d ∷ ds) = cond (is_not_applicable d) (first_applicable ds) d
 -- the decision that all share, else indet
 abbrev pub shared : List Decision → Decision
 shared ds =
-    cond (all is_permit ds) Permit
-    (cond (all is_deny ds) Deny
-    (cond (all is_not_applicable ds) NotApplicable Indeterminate))
+    cond (list_all is_permit ds) Permit
+    (cond (list_all is_deny ds) Deny
+    (cond (list_all is_not_applicable ds) NotApplicable Indeterminate))
 
 abbrev pub decision_by : Algorithm → List Decision → Decision
-decision_by PermitOverrides ds = cond (any is_permit ds) Permit (cond (any is_indeterminate ds) Indeterminate (cond (any is_deny ds) Deny NotApplicable))
-decision_by DenyOverrides ds = cond (any is_deny ds) Deny (cond (any is_indeterminate ds) Indeterminate (cond (any is_permit ds) Permit NotApplicable))
-decision_by DenyUnlessPermit ds = cond (any is_permit ds) Permit Deny
-decision_by PermitUnlessDeny ds = cond (any is_deny ds) Deny Permit
+decision_by PermitOverrides ds = cond (list_any is_permit ds) Permit (cond (list_any is_indeterminate ds) Indeterminate (cond (list_any is_deny ds) Deny NotApplicable))
+decision_by DenyOverrides ds = cond (list_any is_deny ds) Deny (cond (list_any is_indeterminate ds) Indeterminate (cond (list_any is_permit ds) Permit NotApplicable))
+decision_by DenyUnlessPermit ds = cond (list_any is_permit ds) Permit Deny
+decision_by PermitUnlessDeny ds = cond (list_any is_deny ds) Deny Permit
 decision_by FirstApplicable ds = first_applicable ds
-decision_by OneApplicable ds = cond (any is_indeterminate ds || two is_effect ds) Indeterminate (given ds)
-decision_by WeakConsensus ds = cond (any is_indeterminate ds || (any is_permit ds && any is_deny ds)) Indeterminate (given ds)
+decision_by OneApplicable ds = cond (list_any is_indeterminate ds || two is_effect ds) Indeterminate (given ds)
+decision_by WeakConsensus ds = cond (list_any is_indeterminate ds || (list_any is_permit ds && list_any is_deny ds)) Indeterminate (given ds)
 decision_by StrongConsensus ds = shared ds
 
 abbrev pub is_final_by : Algorithm → Decision → Bool

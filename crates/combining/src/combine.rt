@@ -1,9 +1,10 @@
 // The one fold over a set's children, for every algorithm.
 
-ghost use Rattle.std.specs.Prelude.{◌≡◌, ◌+◌, ◌≤◌, [], ◌∷◌, length, take};
+ghost use Rattle.std.specs.Prelude.{◌≡◌, ◌+◌, ◌≤◌, [], ◌∷◌, map, length, take};
 ghost use Rattle.combining.specs.Combined.{visits, stops as stops_of};
 
 use crate::algorithm::CombiningAlgorithm;
+use crate::decided::Decided;
 use crate::decision::Decision;
 use spelling::algorithm::Strategy;
 
@@ -24,18 +25,18 @@ fn stops(strategy: Strategy, is_final: bool) -> bool
 }
 
 // Combines the decisions of the children `first` and `rest`.
-pub fn combine<G: CombiningAlgorithm>(
+pub fn combine<G: CombiningAlgorithm, C: Decided>(
     algorithm: &G,
     strategy: Strategy,
-    first: Decision,
-    rest: &[Decision],
+    first: &C,
+    rest: &[C],
 ) -> Combined
-    ensures visits { result.visited ≡ visits (G.CombiningAlgorithm.wording algorithm.now) strategy (first ∷ []) rest.now }
+    ensures visits { result.visited ≡ visits (G.wording algorithm.now) strategy (C.decision_of first.now ∷ []) (map C.decision_of rest.now) }
     ensures within { result.visited ≤ length rest.now + 1 }
-    ensures visited { result.decision ≡ (G.CombiningAlgorithm.wording algorithm.now).decision (take result.visited (first ∷ rest.now)) }
-    ensures decides { result.decision ≡ (G.CombiningAlgorithm.wording algorithm.now).decision (first ∷ rest.now) }
+    ensures visited { result.decision ≡ (G.wording algorithm.now).decision (map C.decision_of (take result.visited (first.now ∷ rest.now))) }
+    ensures decides { result.decision ≡ (G.wording algorithm.now).decision (map C.decision_of (first.now ∷ rest.now)) }
 {
-    let mut state = algorithm.start(first);
+    let mut state = algorithm.start(first.decision());
     for (i, child) in rest.iter().enumerate() {
         if stops(strategy, algorithm.is_final(state)) {
             return Combined {
@@ -43,10 +44,10 @@ pub fn combine<G: CombiningAlgorithm>(
                 visited: i + 1,
             };
         }
-        state = algorithm.step(state, *child);
+        state = algorithm.step(state, child.decision());
     }
     Combined {
         decision: algorithm.decision(state),
-        visited: rest.len() + 1,
+        visited: C::count_with_first(rest),
     }
 }

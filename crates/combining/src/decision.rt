@@ -1,30 +1,16 @@
 // What a policy decides.
 
-ghost use Rattle.std.specs.Prelude.{◌≡◌, Some};
-ghost use Rattle.combining.specs.Decisions.{same_decision, decision_word};
+ghost use Rattle.std.specs.Prelude.{Some};
+ghost use Rattle.combining.specs.Decisions.{decision_word};
 
 use std::fmt;
 
-#[derive(Clone, Copy)]
+#[derive(Clone, Copy, PartialEq, Eq)]
 pub enum Decision {
     Permit,
     Deny,
     NotApplicable,
     Indeterminate,
-}
-
-impl Decision {
-    pub fn is(self, other: Decision) -> bool
-        ensures { result ≡ same_decision self other }
-    {
-        match (self, other) {
-            (Decision::Permit, Decision::Permit) => true,
-            (Decision::Deny, Decision::Deny) => true,
-            (Decision::NotApplicable, Decision::NotApplicable) => true,
-            (Decision::Indeterminate, Decision::Indeterminate) => true,
-            _ => false,
-        }
-    }
 }
 
 impl fmt::Display for Decision {

@@ -4,9 +4,11 @@
 
 pub mod algorithm;
 pub mod combine;
+pub mod decided;
 pub mod decision;
 pub mod tables;
 
 pub use algorithm::CombiningAlgorithm;
 pub use combine::Combined;
+pub use decided::Decided;
 pub use decision::Decision;

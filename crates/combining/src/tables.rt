@@ -11,63 +11,65 @@ use crate::decision::Decision::*;
 use spelling::algorithm::Algorithm;
 
 // A row for each decision so far, a column for each child's, both in the order permit, deny, not-app, indet.
-static PERMIT_OVERRIDES: [[Decision; 4]; 4] = [
+type Table = [[Decision; 4]; 4];
+
+static PERMIT_OVERRIDES: Table = [
     [Permit, Permit, Permit, Permit],
     [Permit, Deny, Deny, Indeterminate],
     [Permit, Deny, NotApplicable, Indeterminate],
     [Permit, Indeterminate, Indeterminate, Indeterminate],
 ];
 
-static DENY_OVERRIDES: [[Decision; 4]; 4] = [
+static DENY_OVERRIDES: Table = [
     [Permit, Deny, Permit, Indeterminate],
     [Deny, Deny, Deny, Deny],
     [Permit, Deny, NotApplicable, Indeterminate],
     [Indeterminate, Deny, Indeterminate, Indeterminate],
 ];
 
-static DENY_UNLESS_PERMIT: [[Decision; 4]; 4] = [
+static DENY_UNLESS_PERMIT: Table = [
     [Permit, Permit, Permit, Permit],
     [Permit, Deny, Deny, Deny],
     [Permit, Deny, Deny, Deny],
     [Permit, Deny, Deny, Deny],
 ];
 
-static PERMIT_UNLESS_DENY: [[Decision; 4]; 4] = [
+static PERMIT_UNLESS_DENY: Table = [
     [Permit, Deny, Permit, Permit],
     [Deny, Deny, Deny, Deny],
     [Permit, Deny, Permit, Permit],
     [Permit, Deny, Permit, Permit],
 ];
 
-static FIRST_APPLICABLE: [[Decision; 4]; 4] = [
+static FIRST_APPLICABLE: Table = [
     [Permit, Permit, Permit, Permit],
     [Deny, Deny, Deny, Deny],
     [Permit, Deny, NotApplicable, Indeterminate],
     [Indeterminate, Indeterminate, Indeterminate, Indeterminate],
 ];
 
-static ONE_APPLICABLE: [[Decision; 4]; 4] = [
+static ONE_APPLICABLE: Table = [
     [Indeterminate, Indeterminate, Permit, Indeterminate],
     [Indeterminate, Indeterminate, Deny, Indeterminate],
     [Permit, Deny, NotApplicable, Indeterminate],
     [Indeterminate, Indeterminate, Indeterminate, Indeterminate],
 ];
 
-static WEAK_CONSENSUS: [[Decision; 4]; 4] = [
+static WEAK_CONSENSUS: Table = [
     [Permit, Indeterminate, Permit, Indeterminate],
     [Indeterminate, Deny, Deny, Indeterminate],
     [Permit, Deny, NotApplicable, Indeterminate],
     [Indeterminate, Indeterminate, Indeterminate, Indeterminate],
 ];
 
-static STRONG_CONSENSUS: [[Decision; 4]; 4] = [
+static STRONG_CONSENSUS: Table = [
     [Permit, Indeterminate, Indeterminate, Indeterminate],
     [Indeterminate, Deny, Indeterminate, Indeterminate],
     [Indeterminate, Indeterminate, NotApplicable, Indeterminate],
     [Indeterminate, Indeterminate, Indeterminate, Indeterminate],
 ];
 
-fn table(algorithm: Algorithm) -> &'static [[Decision; 4]; 4]
+fn table(algorithm: Algorithm) -> &'static Table
     ensures { T (agrees algorithm result.now) }
 {
     match algorithm {
@@ -110,16 +112,13 @@ impl CombiningAlgorithm for Algorithm {
     }
 
     fn is_final(&self, state: Decision) -> bool {
-        match (*self, state) {
-            (Algorithm::PermitOverrides | Algorithm::DenyUnlessPermit, Permit) => true,
-            (Algorithm::DenyOverrides | Algorithm::PermitUnlessDeny, Deny) => true,
-            (Algorithm::FirstApplicable, NotApplicable) => false,
-            (Algorithm::FirstApplicable, _) => true,
-            (
-                Algorithm::OneApplicable | Algorithm::WeakConsensus | Algorithm::StrongConsensus,
-                Indeterminate,
-            ) => true,
-            _ => false,
+        match self {
+            Algorithm::PermitOverrides | Algorithm::DenyUnlessPermit => state == Permit,
+            Algorithm::DenyOverrides | Algorithm::PermitUnlessDeny => state == Deny,
+            Algorithm::FirstApplicable => state != NotApplicable,
+            Algorithm::OneApplicable | Algorithm::WeakConsensus | Algorithm::StrongConsensus => {
+                state == Indeterminate
+            }
         }
     }
 

@@ -1,5 +1,8 @@
 // The framing of the cases.
 
+ghost use Rattle.std.specs.Prelude.{◌<◌, length, IfSome};
+ghost use Rattle.std.specs.Iterator.{at_most};
+
 use spelling::cut::cut;
 use spelling::number::number;
 
@@ -9,28 +12,34 @@ pub(crate) struct Case<'a> {
     pub readings: &'a [u8],
 }
 
-// The first `count` bytes and the others.
-fn part<'a>(s: &'a [u8], count: usize) -> Option<(&'a [u8], &'a [u8])> {
-    if count > s.len() {
-        return None;
+// The cases in the bytes that are left.
+#[derive(Clone, Copy)]
+pub(crate) struct Cases<'a>(pub &'a [u8]);
+
+impl<'a> Iterator for Cases<'a> {
+    type Item = Case<'a>;
+
+    ghost remaining = { λ s. at_most (length s.0.now) };
+
+    fn next(&mut self) -> Option<Case<'a>> {
+        let (case, after) = next_case(self.0)?;
+        self.0 = after;
+        Some(case)
     }
-    Some(s.split_at(count))
 }
 
 fn length(field: &[u8]) -> Option<usize> {
-    let n = number(field)?;
-    if n < 0 {
-        return None;
-    }
-    Some(n as usize)
+    usize::try_from(number(field)?).ok()
 }
 
 // The first case of `rest`, and what follows it.
-pub(crate) fn next_case<'a>(rest: &'a [u8]) -> Option<(Case<'a>, &'a [u8])> {
+fn next_case<'a>(rest: &'a [u8]) -> Option<(Case<'a>, &'a [u8])>
+    ensures { IfSome result (λ p. length p.1.now < length rest.now) }
+{
     let (header, body) = cut(rest, b'\n')?;
     let (first, second) = cut(header, b' ')?;
-    let (policy, body) = part(body, length(first)?)?;
-    let (readings, body) = part(body, length(second)?)?;
-    let (_, after) = part(body, 1)?;
+    let (policy, body) = body.split_at_checked(length(first)?)?;
+    let (readings, body) = body.split_at_checked(length(second)?)?;
+    let (_, after) = body.split_at_checked(1)?;
     Some((Case { policy, readings }, after))
 }

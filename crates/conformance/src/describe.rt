@@ -38,13 +38,10 @@ fn line_sum(line: Line) -> i64 {
 fn value_sum(value: Value) -> i64 {
     match value {
         Value::Number(x) => i64::from(x),
-        Value::Numbers(set) => {
-            let mut sum = 0i64;
-            for x in set.as_slice() {
-                sum = sum.saturating_add(i64::from(*x));
-            }
-            sum
-        }
+        Value::Numbers(set) => set
+            .as_slice()
+            .iter()
+            .fold(0i64, |sum, x| sum.saturating_add(i64::from(*x))),
         _ => 0,
     }
 }

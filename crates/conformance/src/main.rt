@@ -7,21 +7,16 @@
 mod cases;
 mod describe;
 
-use cases::next_case;
+use cases::Cases;
 use describe::answer;
 use std::io::Read;
 
 fn main(rt: HostRuntime) -> anyhow::Result<()> {
     let mut input = Vec::new(rt.alloc());
     rt.stdin().read_to_end(&mut input)?;
-    let mut rest = input.as_slice();
-    for _ in 0..input.len() {
-        let Some((case, after)) = next_case(rest) else {
-            break;
-        };
+    for case in Cases(input.as_slice()) {
         let line = answer(rt.alloc(), case.policy, case.readings)?;
         println!(rt; "{line}")?;
-        rest = after;
     }
     Ok(())
 }

@@ -1,36 +1,33 @@
 -- Line numbers of duties, added one part after the other.
 use Rattle.std.proofs.Common.{◌≡◌, ℕ, ◌+◌, List, [], ◌++◌, length, vec_items, vec_len, vec_capacity, Vec, sym, refl, ap, ◌∙◌, subst, append_assoc, arith, length-append}
 use Rattle.std.proofs.lemmas.List.{append-nil, map-append, length-map}
-use Rattle.values.specs.Values.{Val}
-use Rattle.policy.specs.declared.line.Line.{Line}
-use Rattle.policy.specs.Lines.{line_at}
 use Rattle.combining.specs.declared.decision.Decision.{Decision}
 use Rattle.combining.specs.Combined.{Response}
-use Rattle.trees.specs.Duties.{Due}
+use Rattle.trees.specs.declared.duty.Duty.{Duty}
 use Rattle.trees.specs.Policies.{bare}
-use Rattle.trees.specs.Known.{known_parts}
-use Rattle.deciding.specs.Kept.{due_from, due_at, read_dues}
+use Rattle.deciding.specs.declared.known.Known.{Known}
+use Rattle.deciding.specs.Known.{due_at, read_dues}
 use Rattle.deciding.specs.Room.{Room, Adds, Responds}
 
-module _ {Z : Type 0} (ls : List Line) (vs : List Val) where
-  pub adds_none : (v : Vec ℕ Z) (xs : List Due) → xs ≡ [] → Adds ls vs v v xs
+module _ {Z : Type 0} (known : Known) where
+  pub adds_none : (v : Vec ℕ Z) (xs : List Duty) → xs ≡ [] → Adds known v v xs
   adds_none v xs e =
-      let P : List Due → Type 0 = λ zs. Adds ls vs v v zs in
-      subst P (sym e) (record { items = sym (append-nil (read_dues ls vs (vec_items v))); len = omega arith; cap = refl })
+      let P : List Duty → Type 0 = λ zs. Adds known v v zs in
+      subst P (sym e) (record { items = sym (append-nil (read_dues known (vec_items v))); len = omega arith; cap = refl })
 
-  pub adds_both : (u v w : Vec ℕ Z) (xs ys zs : List Due) → zs ≡ xs ++ ys → Adds ls vs u v xs → Adds ls vs v w ys → Adds ls vs u w zs
+  pub adds_both : (u v w : Vec ℕ Z) (xs ys zs : List Duty) → zs ≡ xs ++ ys → Adds known u v xs → Adds known v w ys → Adds known u w zs
   adds_both u v w xs ys zs e a b =
       let l : length (xs ++ ys) ≡ length xs + length ys = length-append xs ys in
       let la = a.len in
       let lb = b.len in
-      let P : List Due → Type 0 = λ ts. Adds ls vs u w ts in
+      let P : List Duty → Type 0 = λ ts. Adds known u w ts in
       subst P (sym e) (record {
-        items = b.items ∙ ap (λ ts. ts ++ ys) a.items ∙ append_assoc (read_dues ls vs (vec_items u)) xs ys;
+        items = b.items ∙ ap (λ ts. ts ++ ys) a.items ∙ append_assoc (read_dues known (vec_items u)) xs ys;
         len = omega arith;
         cap = b.cap ∙ a.cap;
       })
 
-  pub room_second : (u v : Vec ℕ Z) (xs ys zs : List Due) → zs ≡ xs ++ ys → Adds ls vs u v xs → Room u zs → Room v ys
+  pub room_second : (u v : Vec ℕ Z) (xs ys zs : List Duty) → zs ≡ xs ++ ys → Adds known u v xs → Room u zs → Room v ys
   room_second u v xs ys zs e a r =
       let l : length (xs ++ ys) ≡ length xs + length ys = length-append xs ys in
       let k : length zs ≡ length (xs ++ ys) = ap length e in
@@ -39,28 +36,26 @@ module _ {Z : Type 0} (ls : List Line) (vs : List Val) where
       omega arith
 
   -- line numbers added are their duties added
-  pub adds_read : (v w : Vec ℕ Z) (ks : List ℕ) (xs : List Due) → vec_items w ≡ vec_items v ++ ks → vec_len w ≡ vec_len v + length ks → vec_capacity w ≡ vec_capacity v → read_dues ls vs ks ≡ xs → Adds ls vs v w xs
-  adds_read v w ks xs i l c e =
-      let n : length (read_dues ls vs ks) ≡ length ks = length-map ks (due_at ls vs) in
+  pub adds_read : (v w : Vec ℕ Z) (ks : List ℕ) (xs : List Duty) → length (vec_items v) ≡ vec_len v → length (vec_items w) ≡ vec_len w → vec_items w ≡ vec_items v ++ ks → vec_capacity w ≡ vec_capacity v → read_dues known ks ≡ xs → Adds known v w xs
+  adds_read v w ks xs lv lw i c e =
+      let n : length (read_dues known ks) ≡ length ks = length-map ks (due_at known) in
+      let l : length (vec_items v ++ ks) ≡ length (vec_items v) + length ks = length-append (vec_items v) ks in
       let k = ap length e in
-      record { items = ap (read_dues ls vs) i ∙ map-append (due_at ls vs) (vec_items v) ks ∙ ap (λ t. read_dues ls vs (vec_items v) ++ t) e; len = omega (arith, n, k, l); cap = c }
+      let j = ap length i in
+      record { items = ap (read_dues known) i ∙ map-append (due_at known) (vec_items v) ks ∙ ap (λ t. read_dues known (vec_items v) ++ t) e; len = omega (arith, n, k, l, j, lv, lw); cap = c }
 
-  pub responds_as : (u v : Vec ℕ Z) (d : Decision) (r s : Response Due) → s ≡ r → Responds ls vs u v d r → Responds ls vs u v d s
-  responds_as u v d r s e a = let P : Response Due → Type 0 = λ t. Responds ls vs u v d t in subst P (sym e) a
+  pub responds_as : (u v : Vec ℕ Z) (d : Decision) (r s : Response Duty) → s ≡ r → Responds known u v d r → Responds known u v d s
+  responds_as u v d r s e a = let P : Response Duty → Type 0 = λ t. Responds known u v d t in subst P (sym e) a
 
-  pub responds_bare : (v : Vec ℕ Z) (d : Decision) (r : Response Due) → r ≡ bare d → Responds ls vs v v d r
+  pub responds_bare : (v : Vec ℕ Z) (d : Decision) (r : Response Duty) → r ≡ bare d → Responds known v v d r
   responds_bare v d r e = responds_as v v d (bare d) r e (record { decides = refl; adds = adds_none v [] refl })
 
 module _ {Z : Type 0} where
-  pub room_as : (u : Vec ℕ Z) (xs zs : List Due) → zs ≡ xs → Room u zs → Room u xs
-  room_as u xs zs e a = let P : List Due → Type 0 = λ ts. Room u ts in subst P e a
+  pub room_as : (u : Vec ℕ Z) (xs zs : List Duty) → zs ≡ xs → Room u zs → Room u xs
+  room_as u xs zs e a = let P : List Duty → Type 0 = λ ts. Room u ts in subst P e a
 
-  pub room_first : (u : Vec ℕ Z) (xs ys zs : List Due) → zs ≡ xs ++ ys → Room u zs → Room u xs
+  pub room_first : (u : Vec ℕ Z) (xs ys zs : List Duty) → zs ≡ xs ++ ys → Room u zs → Room u xs
   room_first u xs ys zs e r =
       let l : length (xs ++ ys) ≡ length xs + length ys = length-append xs ys in
       let k : length zs ≡ length (xs ++ ys) = ap length e in
       omega arith
-
-pub due-is : (ls : List Line) (vs : List Val) (k : ℕ) {x : Line} → line_at ls k ≡ x → due_at ls vs k ≡ due_from (known_parts ls vs) x
-unfolding due_at
-due-is ls vs k f = ap (due_from (known_parts ls vs)) f

@@ -2,4 +2,4 @@ pub mod Meaning
 pub mod Adding
 pub mod Spans
 pub mod Closing
-pub mod Reading
+pub mod Answering

@@ -1,22 +1,27 @@
 -- The answer of a whole policy.
-use Rattle.std.specs.Prelude.{ℕ, ◌≤◌, map, vec_items, vec_capacity}
+use Rattle.std.specs.Prelude.{ℕ, ◌≤◌, vec_items, vec_capacity}
 use Rattle.combining.specs.Combined.{Response}
-use Rattle.trees.specs.Duties.{Due, due_of}
+use Rattle.trees.specs.declared.duty.Duty.{Duty}
 use Rattle.deciding.specs.declared.response.Answer.{Answer}
 use Rattle.deciding.specs.declared.evaluator.Evaluator.{Evaluator}
+use Rattle.deciding.specs.declared.memory.Memory.{Memory}
 
 -- the response that an answer holds
-abbrev pub response_of : Answer → Response Due
-response_of a = record { decision = a.decision; duties = map due_of (vec_items a.duties) }
+abbrev pub response_of : Answer → Response Duty
+response_of a = record { decision = a.decision; duties = (vec_items a.duties) }
 
 -- how many duties an answer has places for
 abbrev pub answer_places : Answer → ℕ
 answer_places a = vec_capacity a.duties
 
--- how many line numbers, readings, children and decisions an evaluator has places for
-abbrev pub places : Evaluator → ℕ × ℕ × ℕ × ℕ
-places e = (vec_capacity e.numbers, vec_capacity e.readings, vec_capacity e.children, vec_capacity e.decisions)
+-- how many line numbers and children a memory has places for
+abbrev pub memory_places : Memory → ℕ × ℕ
+memory_places m = (vec_capacity m.numbers, vec_capacity m.children)
+
+-- how many line numbers, readings and children an evaluator has places for
+abbrev pub places : Evaluator → ℕ × ℕ × ℕ
+places e = (vec_capacity e.memory.numbers, vec_capacity e.readings, vec_capacity e.memory.children)
 
 -- enough for every accepted policy
-abbrev pub Enough : ℕ × ℕ × ℕ × ℕ → Type 0
-Enough p = (65536 ≤ p.0) × (256 ≤ p.1) × (256 ≤ p.2) × (256 ≤ p.3)
+abbrev pub Enough : ℕ × ℕ × ℕ → Type 0
+Enough p = (65536 ≤ p.0) × (256 ≤ p.1) × (256 ≤ p.2)

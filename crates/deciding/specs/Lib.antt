@@ -1,3 +1,4 @@
+pub mod Known
 pub mod Kept
 pub mod Room
 pub mod Answer

@@ -1,90 +1,76 @@
 // The duties that a policy has of its own.
 
-ghost use Rattle.std.specs.Prelude.{◌≡◌, map, length};
-ghost use Rattle.values.specs.Values.{val_of};
-ghost use Rattle.policy.specs.Tree.{Above};
-ghost use Rattle.trees.specs.Duties.{all_fulfilled, dues_of, due_of};
-ghost use Rattle.trees.specs.Parts.{duties_at};
-ghost use Rattle.trees.specs.Known.{known_parts, nothing};
-ghost use Rattle.deciding.specs.Kept.{Within, due_at};
+ghost use Rattle.std.specs.Prelude.{◌≡◌};
+ghost use Rattle.trees.specs.Duties.{all_fulfilled, dues_of};
+ghost use Rattle.trees.specs.Known.{nothing};
+ghost use Rattle.deciding.specs.Known.{size, duties_of, due_at, Within};
 ghost use Rattle.deciding.specs.Room.{Room, Adds};
 
-use crate::value::{is_fulfilled, value};
+use crate::known::Known;
+use crate::value::is_fulfilled;
 use policy::{Force, Line, LineNumber};
 use trees::Duty;
 use values::Value;
 
-// Whether the duties of a chain, which ends at line `last`, all have an argument that fulfils them.
-pub(crate) fn all_fulfilled(lines: &[Line], readings: &[Value], last: Option<LineNumber>) -> bool
-    requires above { Above lines.now }
-    requires within { Within (length lines.now) last }
-    ensures { result ≡ all_fulfilled nothing (duties_at (known_parts lines.now (map val_of readings.now)) last) }
-{
-    match last {
-        None => true,
-        Some(number) => {
-            let line = lines[number as usize - 1];
-            match line {
+// The last duties that a set has of its own for a permit and for a deny.
+#[derive(Clone, Copy)]
+pub struct OwnDuties {
+    pub on_permit: Option<LineNumber>,
+    pub on_deny: Option<LineNumber>,
+}
+
+impl Known<'_> {
+    // Whether the duties of a chain, which ends at line `last`, all have an argument that fulfils them.
+    // A recursion, since each duty names the one before it.
+    pub(crate) fn all_fulfilled(&self, last: Option<LineNumber>) -> bool
+        requires within { Within (size self.now) last }
+        ensures { result ≡ all_fulfilled nothing (duties_of self.now last) }
+    {
+        match last {
+            None => true,
+            Some(number) => match self.line(number) {
                 Line::Duty(_, _, argument, earlier) => {
-                    if !all_fulfilled(lines, readings, earlier) {
-                        return false;
-                    }
-                    let argument = value(lines, readings, argument as usize);
-                    is_fulfilled(&argument)
+                    self.all_fulfilled(earlier) && is_fulfilled(&self.value(argument))
                 }
                 _ => true,
+            },
+        }
+    }
+
+    // Adds the line numbers of a chain of duties, from its first to its last.
+    // A recursion, since each duty names the one before it.
+    pub(crate) fn add_chain(&self, last: Option<LineNumber>, numbers: &mut Vec<LineNumber>)
+        requires within { Within (size self.now) last }
+        requires room { Room numbers.old (dues_of nothing (duties_of self.now last)) }
+        ensures { Adds self.now numbers.old numbers.new (dues_of nothing (duties_of self.now last)) }
+    {
+        if let Some(number) = last {
+            if let Line::Duty(_, _, _, earlier) = self.line(number) {
+                self.add_chain(earlier, numbers);
+                numbers.push_reserved(number);
             }
         }
     }
-}
 
-// Adds the line numbers of a chain of duties, from its first to its last.
-pub(crate) fn add_chain(
-    lines: &[Line],
-    readings: &[Value],
-    last: Option<LineNumber>,
-    out: &mut Vec<LineNumber>,
-)
-    requires above { Above lines.now }
-    requires within { Within (length lines.now) last }
-    requires room { Room out.old (dues_of nothing (duties_at (known_parts lines.now (map val_of readings.now)) last)) }
-    ensures { Adds lines.now (map val_of readings.now) out.old out.new (dues_of nothing (duties_at (known_parts lines.now (map val_of readings.now)) last)) }
-{
-    match last {
-        None => {}
-        Some(number) => {
-            let line = lines[number as usize - 1];
-            match line {
-                Line::Duty(_, _, _, earlier) => {
-                    add_chain(lines, readings, earlier, out);
-                    out.push_reserved(number);
-                }
-                _ => {}
+    // The duty of a line, with its argument's value; for a line of another kind, a duty that nobody has.
+    pub(crate) fn duty_at(&self, number: LineNumber) -> Duty
+        ensures { result ≡ due_at self.now number }
+    {
+        let place = usize::from(number).saturating_sub(1);
+        if let Some(line) = self.lines.get(place) {
+            if let Line::Duty(force, action, argument, _) = *line {
+                let argument = self.value(argument);
+                return Duty {
+                    force,
+                    action,
+                    argument,
+                };
             }
         }
-    }
-}
-
-// The duty of a line, with its argument's value.
-pub(crate) fn duty_at(lines: &[Line], readings: &[Value], number: LineNumber) -> Duty
-    requires { Above lines.now }
-    ensures { due_of result ≡ due_at lines.now (map val_of readings.now) number }
-{
-    let place = (number as usize).saturating_sub(1);
-    if place < lines.len() {
-        let line = lines[place];
-        if let Line::Duty(force, action, argument, _) = line {
-            let argument = value(lines, readings, argument as usize);
-            return Duty {
-                force,
-                action,
-                argument,
-            };
+        Duty {
+            force: Force::May,
+            action: 0,
+            argument: Value::Error,
         }
-    }
-    Duty {
-        force: Force::May,
-        action: 0,
-        argument: Value::Error,
     }
 }

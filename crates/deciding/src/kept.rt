@@ -1,8 +1,11 @@
 // A response that is kept while the lines below it are worked.
 
-use combining::Decision;
+ghost use Rattle.combining.specs.declared.decision.Decision.{Decision};
 
-// The duties are `count` line numbers from `start` on in the memory of line numbers.
+use combining::{Decided, Decision};
+
+// The duties are `count` line numbers from `start` on in the one memory of line numbers:
+// a list of its own for each response would have to be allocated.
 #[derive(Clone, Copy)]
 pub struct Kept {
     pub decision: Decision,
@@ -17,4 +20,16 @@ impl Kept {
         start: 0,
         count: 0,
     };
+}
+
+impl Decided for Kept {
+    ghost decision_of = { λ kept. kept.decision };
+
+    fn decision(&self) -> Decision {
+        self.decision
+    }
+
+    fn count_with_first(rest: &[Kept]) -> usize {
+        rest.len() + 1
+    }
 }

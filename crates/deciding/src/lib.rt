@@ -6,10 +6,13 @@ mod children;
 mod duties;
 pub mod evaluator;
 mod kept;
+mod known;
 mod line;
 mod lines;
+mod memory;
 mod respond;
 pub mod response;
+mod taken;
 mod value;
 
 pub use evaluator::Evaluator;

@@ -1,116 +1,78 @@
 // All lines of a policy, worked from the top.
 
-ghost use Rattle.std.specs.Prelude.{◌≡◌, ◌+◌, ◌<◌, ◌≤◌, map, length, take, drop, vec_len, vec_capacity};
-ghost use Rattle.values.specs.Values.{val_of};
-ghost use Rattle.policy.specs.Tree.{Above, Tree};
-ghost use Rattle.trees.specs.Duties.{due_of};
+ghost use Rattle.std.specs.Prelude.{◌≡◌, ◌+◌, ◌≤◌, ◌++◌, map, length, vec_len, vec_capacity};
 ghost use Rattle.trees.specs.Policies.{respond as respond_of};
 ghost use Rattle.trees.specs.Known.{known_policy, nothing};
-ghost use Rattle.deciding.specs.Kept.{KeptTo, read_dues};
-ghost use Rattle.deciding.specs.Answer.{response_of, answer_places};
+ghost use Rattle.deciding.specs.Known.{size, read_dues};
+ghost use Rattle.deciding.specs.Kept.{KeptTo, response_in};
+ghost use Rattle.deciding.specs.Answer.{response_of, answer_places, memory_places};
 
-use crate::duties::duty_at;
 use crate::kept::Kept;
-use crate::line::respond_line;
+use crate::known::Known;
+use crate::memory::Memory;
 use crate::response::Answer;
-use combining::Decision;
-use policy::{Line, LineNumber};
+use policy::LineNumber;
 use trees::Duty;
 use values::Value;
 
-// Keeps the response of each line.
-fn respond_all(
-    lines: &[Line],
-    readings: &[Value],
-    responses: &mut [Kept],
-    children: &mut Vec<Kept>,
-    decisions: &mut Vec<Decision>,
-    numbers: &mut Vec<LineNumber>,
-)
-    requires tree { Tree lines.now }
-    requires long { length lines.now < length responses.old }
-    requires places { 256 ≤ vec_capacity children.old }
-    requires count { 256 ≤ vec_capacity decisions.old }
-    requires empty { vec_len numbers.old ≡ 0 }
-    requires room { 65536 ≤ vec_capacity numbers.old }
-    ensures kept { KeptTo (length lines.now + 1) lines.now (map val_of readings.now) responses.new (read_dues lines.now (map val_of readings.now) numbers.new.items) }
-    ensures cap { vec_capacity children.new ≡ vec_capacity children.old }
-    ensures limit { vec_capacity decisions.new ≡ vec_capacity decisions.old }
-    ensures room { vec_capacity numbers.new ≡ vec_capacity numbers.old }
-{
-    for place in 0..lines.len() {
-        let start = numbers.len();
-        let decision = respond_line(
-            lines,
-            readings,
-            responses,
-            place + 1,
-            children,
-            decisions,
-            numbers,
-        );
-        let count = numbers.len() - start;
-        responses[place + 1] = Kept {
-            decision,
-            start,
-            count,
-        };
+impl Known<'_> {
+    // Adds the duties of the lines `numbers`, with their arguments' values.
+    fn fulfil(&self, numbers: &[LineNumber], duties: &mut Vec<Duty>)
+        requires { vec_len duties.old + length numbers.now ≤ vec_capacity duties.old }
+        ensures added { duties.new.items ≡ duties.old.items ++ read_dues self.now numbers.now }
+        ensures capacity { vec_capacity duties.new ≡ vec_capacity duties.old }
+    {
+        for number in numbers {
+            let duty = self.duty_at(*number);
+            // The loop gets a proof only where the type of the argument is named.
+            let argument: Value = duty.argument;
+            duties.push_reserved(Duty { argument, ..duty });
+        }
     }
 }
 
-// The duties of a kept response, with their arguments' values.
-fn fulfil(
-    lines: &[Line],
-    readings: &[Value],
-    start: usize,
-    count: usize,
-    numbers: &[LineNumber],
-    duties: &mut Vec<Duty>,
-)
-    requires above { Above lines.now }
-    requires within { start + count ≤ length numbers.now }
-    requires room { count ≤ vec_capacity duties.old }
-    ensures items { map due_of duties.new.items ≡ take count (drop start (read_dues lines.now (map val_of readings.now) numbers.now)) }
-    ensures cap { vec_capacity duties.new ≡ vec_capacity duties.old }
-{
-    duties.clear();
-    for j in 0..count {
-        let duty = duty_at(lines, readings, numbers[start + j]);
-        duties.push_reserved(duty);
+impl Answer {
+    // Becomes a kept response, its duties with their arguments' values.
+    fn fill(&mut self, known: &Known, kept: Kept, numbers: &[LineNumber])
+        requires within { kept.start + kept.count ≤ length numbers.now }
+        requires few { kept.count ≤ 256 }
+        ensures answer { response_of self.new ≡ response_in (read_dues known.now numbers.now) kept }
+        ensures same { answer_places self.new ≡ answer_places self.old }
+    {
+        self.decision = kept.decision;
+        self.duties.clear();
+        let own = &numbers[kept.start..kept.start + kept.count];
+        known.fulfil(own, &mut self.duties);
     }
 }
 
-// The answer of the last line's policy.
-pub(crate) fn respond_last(
-    lines: &[Line],
-    readings: &[Value],
-    responses: &mut [Kept],
-    children: &mut Vec<Kept>,
-    decisions: &mut Vec<Decision>,
-    numbers: &mut Vec<LineNumber>,
-    answer: &mut Answer,
-)
-    requires tree { Tree lines.now }
-    requires long { length lines.now < length responses.old }
-    requires places { 256 ≤ vec_capacity children.old }
-    requires count { 256 ≤ vec_capacity decisions.old }
-    requires room { 65536 ≤ vec_capacity numbers.old }
-    ensures answer { response_of answer.new ≡ respond_of nothing (known_policy lines.now (map val_of readings.now)) }
-    ensures same { answer_places answer.new ≡ answer_places answer.old }
-    ensures cap { vec_capacity children.new ≡ vec_capacity children.old }
-    ensures limit { vec_capacity decisions.new ≡ vec_capacity decisions.old }
-    ensures room { vec_capacity numbers.new ≡ vec_capacity numbers.old }
-{
-    numbers.clear();
-    respond_all(lines, readings, responses, children, decisions, numbers);
-    let last = responses[lines.len()];
-    fulfil(
-        lines,
-        readings,
-        last.start,
-        last.count,
-        numbers.as_slice(),
-        &mut answer.duties,
-    );
-    answer.decision = last.decision;
+impl Memory {
+    // Keeps the response of each line. By number, since a response is kept at its line's number, and lines name one another by it.
+    fn respond_all(&mut self, known: &Known)
+        ensures kept { KeptTo (size known.now + 1) known.now self.new.responses (read_dues known.now self.new.numbers.items) }
+        ensures places { memory_places self.new ≡ memory_places self.old }
+    {
+        self.numbers.clear();
+        for number in 1..=known.last() {
+            let start = self.numbers.len();
+            let decision = self.respond_line(known, number);
+            let count = self.numbers.len() - start;
+            self.responses[usize::from(number)] = Kept {
+                decision,
+                start,
+                count,
+            };
+        }
+    }
+
+    // The answer of the last line's policy.
+    pub(crate) fn respond(&mut self, known: &Known, answer: &mut Answer)
+        ensures answer { response_of answer.new ≡ respond_of nothing (known_policy known.now.lines.now known.now.readings.now) }
+        ensures same { answer_places answer.new ≡ answer_places answer.old }
+        ensures places { memory_places self.new ≡ memory_places self.old }
+    {
+        self.respond_all(known);
+        let last = self.responses[usize::from(known.last())];
+        answer.fill(known, last, self.numbers.as_slice());
+    }
 }

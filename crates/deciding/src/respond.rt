@@ -1,12 +1,11 @@
 // A policy's answer to readings.
 
 ghost use Rattle.std.specs.Prelude.{◌≡◌, ◌≤◌, [], map, length, IfOk, vec_capacity};
-ghost use Rattle.values.specs.Values.{val_of, missing};
+ghost use Rattle.values.specs.declared.value.Value.TheVariants.{Missing as missing};
 ghost use Rattle.policy.specs.Accepted.{lines_of};
 ghost use Rattle.readings.specs.Rows.{map_in};
 ghost use Rattle.combining.specs.Fewer.{Fewer};
 ghost use Rattle.trees.specs.Expressions.{Map};
-ghost use Rattle.trees.specs.Duties.{due_of};
 ghost use Rattle.trees.specs.Policies.{respond as respond_of};
 ghost use Rattle.trees.specs.Parts.{policy_of};
 ghost use Rattle.trees.specs.AllVisited.{all_visited};
@@ -14,8 +13,8 @@ ghost use Rattle.trees.specs.Known.{Reads, wanted, known_policy, nothing};
 ghost use Rattle.deciding.specs.Answer.{response_of, answer_places, places, Enough};
 
 use crate::evaluator::Evaluator;
-use crate::kept::Kept;
-use crate::lines::respond_last;
+use crate::known::Known;
+use crate::memory::Memory;
 use crate::response::Answer;
 use combining::Decision;
 use policy::{Line, Policy};
@@ -43,7 +42,7 @@ impl Answer {
     }
 
     pub fn duties(&self) -> &[Duty]
-        ensures { map due_of result.now ≡ (response_of self.now).duties }
+        ensures { result.now ≡ (response_of self.now).duties }
     {
         self.duties.as_slice()
     }
@@ -51,7 +50,7 @@ impl Answer {
 
 // What a line reads in a row: the value of its name; a line of another kind reads nothing.
 fn read_line(line: Line, row: &Row) -> Value
-    ensures { val_of result ≡ wanted (map_in row.now) line missing }
+    ensures { result ≡ wanted (map_in row.now) line missing }
 {
     match line {
         Line::Attribute(name) => row.look_up(name.as_bytes()),
@@ -62,13 +61,12 @@ fn read_line(line: Line, row: &Row) -> Value
 // Looks up every attr line in a row.
 fn read_row(lines: &[Line], row: &Row, readings: &mut Vec<Value>)
     requires { length lines.now ≤ vec_capacity readings.old }
-    ensures reads { Reads lines.now (map val_of readings.new.items) (map_in row.now) }
+    ensures reads { Reads lines.now readings.new.items (map_in row.now) }
     ensures cap { vec_capacity readings.new ≡ vec_capacity readings.old }
 {
     readings.clear();
-    for i in 0..lines.len() {
-        let value = read_line(lines[i], row);
-        readings.push_reserved(value);
+    for line in lines {
+        readings.push_reserved(read_line(*line, row));
     }
 }
 
@@ -77,37 +75,24 @@ impl Evaluator {
     pub fn new(heap: Global) -> Result<Evaluator, AllocError>
         ensures { IfOk result (λ e. Enough (places e)) }
     {
-        let numbers = Vec::with_capacity(heap, 65536)?;
+        let memory = Memory::new(heap)?;
         let readings = Vec::with_capacity(heap, 256)?;
-        let children = Vec::with_capacity(heap, 256)?;
-        let decisions = Vec::with_capacity(heap, 256)?;
-        Ok(Evaluator {
-            responses: [Kept::NONE; 257],
-            numbers,
-            readings,
-            children,
-            decisions,
-        })
+        Ok(Evaluator { memory, readings })
     }
 
     // Answers by readings that are given line by line: those of every map that they agree with.
     pub fn respond(&mut self, policy: &Policy, readings: &[Value], answer: &mut Answer)
-        ensures known { response_of answer.new ≡ respond_of nothing (known_policy (lines_of policy.now) (map val_of readings.now)) }
-        ensures responds { (m : Map) → Reads (lines_of policy.now) (map val_of readings.now) m → response_of answer.new ≡ respond_of m (policy_of (lines_of policy.now)) }
-        ensures greedy { (m : Map) → Reads (lines_of policy.now) (map val_of readings.now) m → Fewer (response_of answer.new) (respond_of m (all_visited (policy_of (lines_of policy.now)))) }
+        ensures known { response_of answer.new ≡ respond_of nothing (known_policy (lines_of policy.now) readings.now) }
+        ensures responds { (m : Map) → Reads (lines_of policy.now) readings.now m → response_of answer.new ≡ respond_of m (policy_of (lines_of policy.now)) }
+        ensures greedy { (m : Map) → Reads (lines_of policy.now) readings.now m → Fewer (response_of answer.new) (respond_of m (all_visited (policy_of (lines_of policy.now)))) }
         ensures same { answer_places answer.new ≡ answer_places answer.old }
         ensures places { places self.new ≡ places self.old }
     {
-        let lines = policy.lines();
-        respond_last(
-            lines,
+        let known = Known {
+            lines: policy.lines(),
             readings,
-            &mut self.responses,
-            &mut self.children,
-            &mut self.decisions,
-            &mut self.numbers,
-            answer,
-        );
+        };
+        self.memory.respond(&known, answer);
     }
 
     // Answers by a row of a readings file.
@@ -119,14 +104,10 @@ impl Evaluator {
     {
         let lines = policy.lines();
         read_row(lines, row, &mut self.readings);
-        respond_last(
+        let known = Known {
             lines,
-            self.readings.as_slice(),
-            &mut self.responses,
-            &mut self.children,
-            &mut self.decisions,
-            &mut self.numbers,
-            answer,
-        );
+            readings: self.readings.as_slice(),
+        };
+        self.memory.respond(&known, answer);
     }
 }

@@ -1,19 +1,20 @@
 // The value of an expression.
 
-ghost use Rattle.std.specs.Prelude.{◌≡◌, ◌<◌, ◌≤◌, map, length};
-ghost use Rattle.values.specs.Values.{val_of};
-ghost use Rattle.policy.specs.Tree.{Above};
-ghost use Rattle.trees.specs.Expressions.{applied, value_of};
+ghost use Rattle.std.specs.Prelude.{◌≡◌, ◌<◌, ◌≤◌, map};
+ghost use Rattle.trees.specs.Expressions.{applied};
 ghost use Rattle.trees.specs.Duties.{fulfils};
-ghost use Rattle.trees.specs.Parts.{part_at, as_expression};
-ghost use Rattle.trees.specs.Known.{read_at, known_parts, nothing};
+ghost use Rattle.trees.specs.Known.{read_at};
+ghost use Rattle.deciding.specs.Known.{size, value_at};
 
+use crate::known::Known;
 use operators::{add, and, div, equal, greater, member, mul, not, or, sub};
-use policy::{Line, Operator};
+use policy::{Line, LineNumber, Operator};
 use values::Value;
 
+// A match and no table of functions: each arm calls another operator, and the match stays whole when one is added.
+#[tactic(auto, unfolding(trees::specs::Expressions::applied))]
 fn apply(operator: Operator, a: &Value, b: &Value) -> Value
-    ensures { val_of result ≡ applied operator (val_of a.now) (val_of b.now) }
+    ensures { result ≡ applied operator a.now b.now }
 {
     match operator {
         Operator::And => and(a, b),
@@ -28,50 +29,43 @@ fn apply(operator: Operator, a: &Value, b: &Value) -> Value
     }
 }
 
-// What line `number` read.
-fn reading(readings: &[Value], number: usize) -> Value
-    requires { 0 < number }
-    ensures { val_of result ≡ read_at (map val_of readings.now) number }
-{
-    let place = number - 1;
-    if place < readings.len() {
-        readings[place]
-    } else {
-        Value::Missing
-    }
-}
-
-// The value of the expression at line `number`, whose readings are given line by line.
-pub(crate) fn value(lines: &[Line], readings: &[Value], number: usize) -> Value
-    requires above { Above lines.now }
-    requires low { 0 < number }
-    requires high { number ≤ length lines.now }
-    ensures { val_of result ≡ value_of nothing (as_expression (part_at (known_parts lines.now (map val_of readings.now)) number)) }
-{
-    let line = lines[number - 1];
-    match line {
-        Line::Truth(truth) => Value::Bool(truth),
-        Line::Attribute(_) => reading(readings, number),
-        Line::Number(x) => Value::Number(x),
-        Line::Text(text) => Value::Text(text),
-        Line::Not(operand) => {
-            let operand = value(lines, readings, operand as usize);
-            not(&operand)
-        }
-        Line::Binary(operator, left, right) => {
-            let left = value(lines, readings, left as usize);
-            let right = value(lines, readings, right as usize);
-            apply(operator, &left, &right)
-        }
-        _ => Value::Error,
-    }
-}
-
 pub(crate) fn is_fulfilled(argument: &Value) -> bool
-    ensures { result ≡ fulfils (val_of argument.now) }
+    ensures { result ≡ fulfils argument.now }
 {
     match argument {
         Value::Bool(_) | Value::Number(_) | Value::Text(_) => true,
         _ => false,
+    }
+}
+
+impl Known<'_> {
+    // What line `number` read.
+    fn reading(&self, number: LineNumber) -> Value
+        requires { 0 < number }
+        ensures { result ≡ read_at self.now.readings.now number }
+    {
+        let reading = self.readings.get(usize::from(number) - 1);
+        reading.copied().unwrap_or(Value::Missing)
+    }
+
+    // The value of the expression at line `number`.
+    pub(crate) fn value(&self, number: LineNumber) -> Value
+        requires low { 0 < number }
+        requires high { number ≤ size self.now }
+        ensures { result ≡ value_at self.now number }
+    {
+        match self.line(number) {
+            Line::Truth(truth) => Value::Bool(truth),
+            Line::Attribute(_) => self.reading(number),
+            Line::Number(x) => Value::Number(x),
+            Line::Text(text) => Value::Text(text),
+            Line::Not(operand) => not(&self.value(operand)),
+            Line::Binary(operator, left, right) => {
+                let left = self.value(left);
+                let right = self.value(right);
+                apply(operator, &left, &right)
+            }
+            _ => Value::Error,
+        }
     }
 }

@@ -40,7 +40,7 @@ fn values(rt: HostRuntime) -> Result<(), Fail> {
 }
 
 fn combined(algorithm: Algorithm, first: Decision, second: Decision) -> Decision {
-    combine(&algorithm, Strategy::All, first, &[second]).decision
+    combine(&algorithm, Strategy::All, &first, &[second]).decision
 }
 
 #[test]

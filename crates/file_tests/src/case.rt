@@ -68,8 +68,8 @@ pub(crate) fn check_refused(
     let found = match check_pair(room, table, policy, readings) {
         Ok(_) => None,
         Err(rejection) => Some(Refusal(
-            rejection.cause.number(),
-            rejection.cause.layer(),
+            u8::from(rejection.cause),
+            u8::from(rejection.cause.layer()),
             rejection.line,
             rejection.field,
         )),

@@ -102,7 +102,7 @@ fn check_not_written(rt: &impl Abort, policy: &Policy, buffer: &mut [u8]) -> Res
         Ok(_) => Err(Fail::new("the file was written")),
         Err(rejection) => {
             assert_eq!(rt;
-                (rejection.cause.number(), rejection.cause.layer()),
+                (u8::from(rejection.cause), u8::from(rejection.cause.layer())),
                 (11, 3)
             );
             assert_eq!(rt; (rejection.line, rejection.field), (0, 0));

@@ -1,8 +1,9 @@
 -- What an operator asks of a value.
 use Rattle.std.specs.Prelude.{ℕ, Bool, true, false, not, List, ℤ}
-use Rattle.values.specs.Values.{Val, missing, error, boolean, number, text, numbers, texts}
+use Rattle.values.specs.declared.value.Value.{Value}
+use Rattle.values.specs.declared.value.Value.TheVariants.{Missing as missing, Error as error, Bool as boolean, Number as number, Text as text, Numbers as numbers, Texts as texts}
 
-abbrev pub is_missing : Val → Bool
+abbrev pub is_missing : Value → Bool
 is_missing missing = true
 is_missing error = false
 is_missing (boolean b) = false
@@ -11,7 +12,7 @@ is_missing (text t) = false
 is_missing (numbers zs) = false
 is_missing (texts ts) = false
 
-abbrev pub is_error : Val → Bool
+abbrev pub is_error : Value → Bool
 is_error missing = false
 is_error error = true
 is_error (boolean b) = false
@@ -20,7 +21,7 @@ is_error (text t) = false
 is_error (numbers zs) = false
 is_error (texts ts) = false
 
-abbrev pub is_true : Val → Bool
+abbrev pub is_true : Value → Bool
 is_true missing = false
 is_true error = false
 is_true (boolean b) = b
@@ -29,7 +30,7 @@ is_true (text t) = false
 is_true (numbers zs) = false
 is_true (texts ts) = false
 
-abbrev pub is_false : Val → Bool
+abbrev pub is_false : Value → Bool
 is_false missing = false
 is_false error = false
 is_false (boolean b) = not b
@@ -40,7 +41,7 @@ is_false (texts ts) = false
 
 -- what is made of a boolean, a number, a text or a set of either; error of any other value
 
-abbrev pub on_boolean : Val → (Bool → Val) → Val
+abbrev pub on_boolean : Value → (Bool → Value) → Value
 on_boolean missing f = error
 on_boolean error f = error
 on_boolean (boolean b) f = f b
@@ -49,7 +50,7 @@ on_boolean (text t) f = error
 on_boolean (numbers zs) f = error
 on_boolean (texts ts) f = error
 
-abbrev pub on_number : Val → (ℤ → Val) → Val
+abbrev pub on_number : Value → (ℤ → Value) → Value
 on_number missing f = error
 on_number error f = error
 on_number (boolean b) f = error
@@ -58,7 +59,7 @@ on_number (text t) f = error
 on_number (numbers zs) f = error
 on_number (texts ts) f = error
 
-abbrev pub on_text : Val → (List ℕ → Val) → Val
+abbrev pub on_text : Value → (List ℕ → Value) → Value
 on_text missing f = error
 on_text error f = error
 on_text (boolean b) f = error
@@ -67,7 +68,7 @@ on_text (text t) f = f t
 on_text (numbers zs) f = error
 on_text (texts ts) f = error
 
-abbrev pub on_numbers : Val → (List ℤ → Val) → Val
+abbrev pub on_numbers : Value → (List ℤ → Value) → Value
 on_numbers missing f = error
 on_numbers error f = error
 on_numbers (boolean b) f = error
@@ -76,7 +77,7 @@ on_numbers (text t) f = error
 on_numbers (numbers zs) f = f zs
 on_numbers (texts ts) f = error
 
-abbrev pub on_texts : Val → (List (List ℕ) → Val) → Val
+abbrev pub on_texts : Value → (List (List ℕ) → Value) → Value
 on_texts missing f = error
 on_texts error f = error
 on_texts (boolean b) f = error

@@ -1,3 +1,3 @@
+pub mod Arithmetic
 pub mod Classes
 pub mod Operators
-pub mod Sides

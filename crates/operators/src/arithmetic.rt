@@ -1,56 +1,47 @@
 // The operators on two numbers: `add`, `sub`, `mul` and `div`.
 
-ghost use Rattle.std.specs.Prelude.{◌≡◌};
-ghost use Rattle.values.specs.Values.{val_of};
-ghost use Rattle.operators.specs.Operators.{add_of, sub_of, mul_of, div_of};
-ghost use Rattle.operators.specs.Sides.{number_or};
+ghost use Rattle.std.specs.Prelude.{◌≡◌, ℤ};
+ghost use Rattle.values.specs.declared.value.Value.{Value};
+ghost use Rattle.operators.specs.Operators.{on_two_numbers, add_of, sub_of, mul_of, div_of};
+ghost use Rattle.operators.specs.Arithmetic.{Gives};
 
-use crate::sides::two_numbers;
+use crate::sides::not_taken;
 use values::Value;
 
 pub fn add(a: &Value, b: &Value) -> Value
-    ensures { val_of result ≡ add_of (val_of a.now) (val_of b.now) }
+    ensures { result ≡ add_of a.now b.now }
 {
-    match two_numbers(a, b) {
-        Ok((x, y)) => number(x.checked_add(y)),
-        Err(stop) => stop.value(),
-    }
+    compute(a, b, i32::checked_add)
 }
 
 pub fn sub(a: &Value, b: &Value) -> Value
-    ensures { val_of result ≡ sub_of (val_of a.now) (val_of b.now) }
+    ensures { result ≡ sub_of a.now b.now }
 {
-    match two_numbers(a, b) {
-        Ok((x, y)) => number(x.checked_sub(y)),
-        Err(stop) => stop.value(),
-    }
+    compute(a, b, i32::checked_sub)
 }
 
 pub fn mul(a: &Value, b: &Value) -> Value
-    ensures { val_of result ≡ mul_of (val_of a.now) (val_of b.now) }
+    ensures { result ≡ mul_of a.now b.now }
 {
-    match two_numbers(a, b) {
-        Ok((x, y)) => number(x.checked_mul(y)),
-        Err(stop) => stop.value(),
-    }
+    compute(a, b, i32::checked_mul)
 }
 
 // The fraction is dropped, so the quotient goes towards zero; by zero there is none, hence an error.
 pub fn div(a: &Value, b: &Value) -> Value
-    ensures { val_of result ≡ div_of (val_of a.now) (val_of b.now) }
+    ensures { result ≡ div_of a.now b.now }
 {
-    match two_numbers(a, b) {
-        Ok((x, y)) => number(x.checked_div(y)),
-        Err(stop) => stop.value(),
-    }
+    compute(a, b, i32::checked_div)
 }
 
 // A result that a number cannot hold is an error.
-fn number(x: Option<i32>) -> Value
-    ensures { val_of result ≡ number_or x }
+fn compute<F: Fn(i32, i32) -> Option<i32>>(a: &Value, b: &Value, operation: F) -> Value
+    requires { F.IsAlwaysCallable operation }
+    ensures { (f : ℤ → ℤ → Value) → Gives (λ x y r. F.post operation x y r) f → result ≡ on_two_numbers a.now b.now f }
 {
-    match x {
-        Some(z) => Value::Number(z),
-        None => Value::Error,
+    match (a, b) {
+        (Value::Number(x), Value::Number(y)) => {
+            operation(*x, *y).map_or(Value::Error, Value::Number)
+        }
+        _ => not_taken(a, b),
     }
 }

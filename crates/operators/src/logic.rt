@@ -1,14 +1,13 @@
 // The operators on truth values: `and`, `or` and `not`.
 
 ghost use Rattle.std.specs.Prelude.{◌≡◌};
-ghost use Rattle.values.specs.Values.{val_of};
 ghost use Rattle.operators.specs.Operators.{and_of, or_of, not_of};
 
 use values::Value;
 
 // One false side settles it, whatever the other is; missing is not false, since it may turn out true.
 pub fn and(a: &Value, b: &Value) -> Value
-    ensures { val_of result ≡ and_of (val_of a.now) (val_of b.now) }
+    ensures { result ≡ and_of a.now b.now }
 {
     match (a, b) {
         (Value::Bool(false), _) | (_, Value::Bool(false)) => Value::Bool(false),
@@ -18,21 +17,15 @@ pub fn and(a: &Value, b: &Value) -> Value
     }
 }
 
-// One true side settles it.
+// One true side settles it: `and` with true and false exchanged, which `not` does; missing and error stay.
 pub fn or(a: &Value, b: &Value) -> Value
-    ensures { val_of result ≡ or_of (val_of a.now) (val_of b.now) }
+    ensures { result ≡ or_of a.now b.now }
 {
-    match (a, b) {
-        (Value::Bool(true), _) | (_, Value::Bool(true)) => Value::Bool(true),
-        (Value::Bool(false), Value::Bool(false)) => Value::Bool(false),
-        (Value::Missing | Value::Bool(false), Value::Missing | Value::Bool(false)) =>
-            Value::Missing,
-        _ => Value::Error,
-    }
+    not(&and(&not(a), &not(b)))
 }
 
 pub fn not(a: &Value) -> Value
-    ensures { val_of result ≡ not_of (val_of a.now) }
+    ensures { result ≡ not_of a.now }
 {
     match a {
         Value::Missing => Value::Missing,

@@ -1,7 +1,7 @@
 -- What holds of every accepted file.
-use Rattle.std.proofs.Common.{◌≡◌, ℕ, zero, suc, ◌+◌, ◌-◌, ◌<◌, ◌≤◌, Bool, true, false, cond, ◌&&◌, eqb, ltb, List, [], ◌∷◌, ◌++◌, length, get_or, take, drop, replicate, Some, None, Ok, codes, Option, sym, refl, ap, ◌∙◌, subst, ⊎_elim, append_assoc, arith, length-drop}
+use Rattle.std.proofs.Common.{◌≡◌, ℕ, zero, suc, ◌+◌, ◌-◌, ◌<◌, ◌≤◌, true, false, cond, ◌&&◌, eqb, ltb, List, [], ◌∷◌, ◌++◌, length, get_or, take, drop, replicate, Some, None, Ok, codes, Option, sym, refl, ap, ◌∙◌, subst, ⊎_elim, append_assoc, arith, length-drop}
 use Rattle.std.proofs.lemmas.List.{length_push, length-take-le, get_or-take, get_or-drop, append-nil, get_or_append_left, get_or_push}
-use Rattle.std.proofs.lemmas.Bool.{cases_eq, eqb-false}
+use Rattle.std.proofs.lemmas.Bool.{and_parts, cases_eq, eqb-false}
 use Rattle.std.proofs.lemmas.Bool.Decides.{nat_tests}
 use Rattle.std.specs.Str.{bytes_eq}
 use Rattle.refusals.specs.Results.{or_refuse}
@@ -16,15 +16,15 @@ use Rattle.policy.specs.declared.line.Line.TheVariants as l
 use Rattle.policy.specs.Lines.{family_of, same_family, line_at, Reference, references}
 use Rattle.policy.specs.Check.{Marks, no_marks, step_of, line_of, unmarked_from, all_named, end_of, body_of, header_of, after_header, check_of}
 use Rattle.policy.specs.Spelt.{fields_for, row, rows, spelt}
-use Rattle.policy.specs.Tree.{is_sound, all_sound, times, namings, Tree}
+use Rattle.policy.specs.Tree.{is_sound, all_sound, namings, Tree}
 use Rattle.refusals.proofs.Inversions.{bind_ok, field_bind, ok_same, or_ok, passed, cleared, line_ok}
 use Rattle.policy.specs.WellSpelt.{WellSpelt, AllWellSpelt, Spells}
 use Rattle.policy.proofs.LineLaws.{line_reads}
 use Rattle.policy.proofs.Named.{mark, Named}
 
-pub namings-push : (k : ℕ) (ls : List Line) (l : Line) → namings k (ls ++ l ∷ []) ≡ namings k ls + times k (references l)
-namings-push k [] l = omega arith
-namings-push k (x ∷ ls) l = let e = namings-push k ls l in omega (arith, e)
+pub namings-both : (k : ℕ) (ls zs : List Line) → namings k (ls ++ zs) ≡ namings k ls + namings k zs
+namings-both k [] zs = omega arith
+namings-both k (x ∷ ls) zs = let e = namings-both k ls zs in omega (arith, e)
 
 -- lines above stay what they are
 line_kept : (ls : List Line) (x : Line) (k : ℕ) → 0 < k → k ≤ length ls → line_at (ls ++ x ∷ []) k ≡ line_at ls k
@@ -37,15 +37,10 @@ sound_one ls x n r le h =
     let e = line_kept ls x r.line lo (omega arith) in
     ap (λ y. ltb 0 r.line && (ltb r.line n && same_family (family_of y) r.family)) e ∙ h
 
-and_both : (t u : Bool) → t && u ≡ true → (t ≡ true) × (u ≡ true)
-and_both true u e = (refl, e)
-and_both false true e = (e, refl)
-and_both false false e = (e, e)
-
 sound_kept : (ls : List Line) (x : Line) (n : ℕ) (rs : List Reference) → n ≤ length ls + 1 → all_sound ls n rs ≡ true → all_sound (ls ++ x ∷ []) n rs ≡ true
 sound_kept ls x n [] le h = refl
 sound_kept ls x n (r ∷ rs) le h =
-    let p = and_both (is_sound ls n r) (all_sound ls n rs) h in
+    let p = and_parts (is_sound ls n r) (all_sound ls n rs) h in
     (λ i. sound_one ls x n r le p.0 i && sound_kept ls x n rs le p.1 i)
 
 -- the lines so far and their marks
@@ -57,7 +52,7 @@ record Good (ls : List Line) (ms : Marks) : Type 0 where
 
 good_more : (ls : List Line) (ms ns : Marks) (x : Line) → Good ls ms → Named ls ms (references x) ns → WellSpelt x → Good (ls ++ x ∷ []) ns
 good_more ls ms ns x g n w = record {
-  counts = λ k. omega (arith, namings-push k ls x, g.counts k, n.counts k);
+  counts = λ k. omega (arith, namings-both k ls (x ∷ []), g.counts k, n.counts k);
   long = n.long ∙ g.long;
   sound = λ m lo hi. ⊎_elim
       (λ e. let last : line_at (ls ++ x ∷ []) m ≡ x = get_or_push ls x (l.Truth false) (m - 1) (omega arith) in
@@ -157,14 +152,15 @@ body_whole (suc left) ls ms (x ∷ xs) out n g h =
     let w = body_whole left (ls ++ s.0 ∷ []) s.1 s.2 out (omega (arith, len)) (good_more ls ms s.1 s.0 g r.named r.spelled) a.1.1 in
     record { tree = w.tree; spells = w.spells ∙ rows-push ls s.0 s.2 ∙ ap (λ y. rows ls ++ y) r.spells; spelled = w.spelled }
 
-down : (n k : ℕ) → get_or (replicate n false) k false ≡ false
-down zero k = refl
-down (suc n) zero = refl
-down (suc n) (suc k) = down n k
+-- no mark is set at the start
+pub unmarked_start : (n k : ℕ) → get_or (replicate n false) k false ≡ false
+unmarked_start zero k = refl
+unmarked_start (suc n) zero = refl
+unmarked_start (suc n) (suc k) = unmarked_start n k
 
 start : Good [] no_marks
 unfolding no_marks
-start = record { counts = λ k. ap (λ t. cond t 1 0) (sym (down 257 k)); long = refl; sound = λ n lo hi. absurd (omega arith); spelled = λ n lo hi. absurd (omega arith) }
+start = record { counts = λ k. ap (λ t. cond t 1 0) (sym (unmarked_start 257 k)); long = refl; sound = λ n lo hi. absurd (omega arith); spelled = λ n lo hi. absurd (omega arith) }
 
 header_back : (xs body : List ℕ) → header_of xs ≡ Some body → codes "kind a b c d e" ++ 10 ∷ body ≡ xs
 header_back xs body h =

@@ -24,7 +24,7 @@ use Rattle.policy.specs.declared.line.Line.{Line}
 use Rattle.policy.specs.declared.line.Line.TheVariants as l
 use Rattle.policy.specs.Kinds.{operator_named, leaf_named, branch_named, kind_of}
 use Rattle.policy.specs.Lines.{references}
-use Rattle.policy.specs.Check.{Marks, marking, refer_of, may_refer_of, unused_of, last_two, last_three, last_four, truth_of, attribute_of, number_line_of, text_line_of, not_of, binary_of, duty_of, item_of, rule_of, set_of, line_for, line_of}
+use Rattle.policy.specs.Check.{Marks, marking, refer_of, may_refer_of, unused_of, last_two, last_three, last_four, leaf_of, truth_of, attribute_of, number_line_of, text_line_of, not_of, binary_of, duty_of, item_of, rule_of, set_of, line_for, line_of}
 use Rattle.policy.specs.Spelt.{truth_word, operator_word, force_word, effect_word, fields_for}
 use Rattle.refusals.proofs.Inversions.{bind_ok, field_bind, ok_same, or_ok, passed, field_ok}
 use Rattle.policy.specs.WellSpelt.{WellSpelt}
@@ -113,32 +113,28 @@ module _ (ls : List Line) (ms : Marks) (f : Six) (lt : length ls < length ms) wh
       let e : l.Truth b ≡ x = ok_same u.1.1 in
       (ap references (sym e), ap fields_for (sym e) ∙ same_six (fields_for (l.Truth b)) f (sym w) (unused_back f.a _ a.1.0) (four_back f _ u.1.0), subst WellSpelt e tt))
 
+  -- a line of one field that is spelled in one way
+  leaf_reads : {A : Type 0} (spelled : Option A) (line : A → Line) (p : Line × Marks) → ((x : A) → references (line x) ≡ [])
+      → ((x : A) → spelled ≡ Some x → (codes "-" ≡ f.b) × ((codes "-" ≡ f.c) × ((codes "-" ≡ f.d) × (codes "-" ≡ f.e))) → (fields_for (line x) ≡ f) × WellSpelt (line x))
+      → marking (leaf_of spelled line f) ms ≡ Ok p → Reads p
+  leaf_reads spelled line p leaf back h = plain (leaf_of spelled line f) p h (λ y g.
+      let a = field_bind 2 (or_refuse spelled why.Misspelt) _ y g in
+      let u = bind_ok (last_four f) _ y a.1.1 in
+      let b = back a.0 (or_ok spelled _ a.0 a.1.0) (four_back f _ u.1.0) in
+      let e : line a.0 ≡ y = ok_same u.1.1 in
+      (ap references (sym e) ∙ leaf a.0, ap fields_for (sym e) ∙ b.0, subst WellSpelt e b.1))
+
   attribute_reads : (p : Line × Marks) → f.kind ≡ codes "attr" → marking (attribute_of f) ms ≡ Ok p → Reads p
-  attribute_reads p w h = plain (attribute_of f) p h (λ x g.
-      let a = field_bind 2 (or_refuse (name_of f.a) why.Misspelt) _ x g in
-      let u = bind_ok (last_four f) _ x a.1.1 in
-      let e : l.Attribute a.0 ≡ x = ok_same u.1.1 in
-      let read = or_ok (name_of f.a) _ a.0 a.1.0 in
-      let back = name_back f.a a.0 read in
-      (ap references (sym e), ap fields_for (sym e) ∙ same_six (fields_for (l.Attribute a.0)) f (sym w) back (four_back f _ u.1.0), subst WellSpelt e (ap name_of back ∙ read)))
+  attribute_reads p w = leaf_reads (name_of f.a) l.Attribute p (λ x. refl)
+      (λ x read unused. let back = name_back f.a x read in (same_six (fields_for (l.Attribute x)) f (sym w) back unused, ap name_of back ∙ read))
 
   number_reads : (p : Line × Marks) → f.kind ≡ codes "num" → marking (number_line_of f) ms ≡ Ok p → Reads p
-  number_reads p w h = plain (number_line_of f) p h (λ x g.
-      let a = field_bind 2 (or_refuse (number_of f.a) why.Misspelt) _ x g in
-      let u = bind_ok (last_four f) _ x a.1.1 in
-      let e : l.Number a.0 ≡ x = ok_same u.1.1 in
-      let read = or_ok (number_of f.a) _ a.0 a.1.0 in
-      let back = number_back f.a a.0 read in
-      (ap references (sym e), ap fields_for (sym e) ∙ same_six (fields_for (l.Number a.0)) f (sym w) back (four_back f _ u.1.0), subst WellSpelt e (ap number_of back ∙ read)))
+  number_reads p w = leaf_reads (number_of f.a) l.Number p (λ x. refl)
+      (λ x read unused. let back = number_back f.a x read in (same_six (fields_for (l.Number x)) f (sym w) back unused, ap number_of back ∙ read))
 
   text_reads : (p : Line × Marks) → f.kind ≡ codes "text" → marking (text_line_of f) ms ≡ Ok p → Reads p
-  text_reads p w h = plain (text_line_of f) p h (λ x g.
-      let a = field_bind 2 (or_refuse (text_of f.a) why.Misspelt) _ x g in
-      let u = bind_ok (last_four f) _ x a.1.1 in
-      let e : l.Text a.0 ≡ x = ok_same u.1.1 in
-      let read = or_ok (text_of f.a) _ a.0 a.1.0 in
-      let back = text_back f.a a.0 read in
-      (ap references (sym e), ap fields_for (sym e) ∙ same_six (fields_for (l.Text a.0)) f (sym w) back (four_back f _ u.1.0), subst WellSpelt e (ap text_of back ∙ read)))
+  text_reads p w = leaf_reads (text_of f.a) l.Text p (λ x. refl)
+      (λ x read unused. let back = text_back f.a x read in (same_six (fields_for (l.Text x)) f (sym w) back unused, ap text_of back ∙ read))
 
   -- lines that name others
 

@@ -1,10 +1,9 @@
 -- One turn of the recursion over the lines of a file.
-use Rattle.std.proofs.Common.{◌≡◌, ℕ, suc, ◌+◌, ◌-◌, ◌≤◌, false, eqb, List, [], ◌∷◌, ◌++◌, length, Ok, Err, Result, sym, refl, ap, ◌∙◌, arith, Bor}
+use Rattle.std.proofs.Common.{◌≡◌, ℕ, suc, ◌+◌, ◌-◌, ◌<◌, ◌≤◌, false, eqb, List, [], ◌∷◌, ◌++◌, length, Ok, Err, Result, sym, refl, ap, ◌∙◌, arith, Bor}
 use Rattle.std.proofs.lemmas.List.{length_push}
-use Rattle.std.proofs.lemmas.Bool.{true≢false}
+use Rattle.std.proofs.lemmas.Bool.Decides.{nat_tests}
 use Rattle.refusals.specs.Results.{bind_r}
 use Rattle.refusals.specs.Places.{at_line}
-use Rattle.refusals.specs.declared.place.LineFault.{LineFault}
 use Rattle.refusals.specs.declared.place.Rejection.{Rejection}
 use Rattle.policy.specs.declared.line.Line.{Line}
 use Rattle.policy.specs.Check.{Marks, body_of, step_of, stepped}
@@ -19,39 +18,29 @@ Step = Line × Marks × List ℕ
 from : ℕ → List Line → Result Step Rejection → Read
 from left ls r = bind_r r (λ s. body_of left (ls ++ s.0 ∷ []) s.1 s.2)
 
-body_more : (left : ℕ) (ls : List Line) (ms : Marks) (xs : List ℕ) → eqb (length xs) 0 ≡ false → body_of (suc left) ls ms xs ≡ from left ls (at_line (length ls + 1) (step_of ls ms xs))
-unfolding from
-body_more left ls ms [] h = absurd (true≢false h)
+pub body_more : (left : ℕ) (ls : List Line) (ms : Marks) (xs : List ℕ) → 0 < length xs → body_of (suc left) ls ms xs ≡ bind_r (at_line (length ls + 1) (step_of ls ms xs)) (λ s. body_of left (ls ++ s.0 ∷ []) s.1 s.2)
+body_more left ls ms [] h = absurd (omega arith)
 body_more left ls ms (x ∷ xs) h = refl
-
-failed : (n : ℕ) (r : Result (Line × Bor (List ℕ)) LineFault) (after : Marks) (e : Rejection) → Err e ≡ at_line n r → Err e ≡ at_line n (stepped r after)
-failed n (Ok p) after e h = let z : ◌≡◌ {A = ℕ} 0 1 = cc in absurd (omega arith)
-failed n (Err f) after e h = cc
-
-passed : (n : ℕ) (r : Result (Line × Bor (List ℕ)) LineFault) (after : Marks) (p : Line × Bor (List ℕ)) → Ok p ≡ at_line n r → Ok (p.0, after, p.1.now) ≡ at_line n (stepped r after)
-passed n (Ok q) after p h = let e : p ≡ q = cc in ap (λ (x : Line × Bor (List ℕ)). Ok (x.0, after, x.1.now)) e
-passed n (Err f) after p h = let z : ◌≡◌ {A = ℕ} 0 1 = cc in absurd (omega arith)
 
 module _ (ls : List Line) (ms : Marks) (xs : List ℕ) (want : Read) (some : eqb (length xs) 0 ≡ false) (inv : body_of (256 - length ls) ls ms xs ≡ want) where
   turned : (n : ℕ) → n ≡ length ls + 1 → n ≤ 256 → from (256 - n) ls (at_line n (step_of ls ms xs)) ≡ want
+  unfolding from
   turned n e h =
+      let filled : 0 < length xs = grind (arith, nat_tests) in
       let z : suc (256 - n) ≡ 256 - length ls = omega arith in
-      ap (λ k. from (256 - n) ls (at_line k (step_of ls ms xs))) e ∙ sym (body_more (256 - n) ls ms xs some) ∙ ap (λ k. body_of k ls ms xs) z ∙ inv
+      ap (λ k. from (256 - n) ls (at_line k (step_of ls ms xs))) e ∙ sym (body_more (256 - n) ls ms xs filled) ∙ ap (λ k. body_of k ls ms xs) z ∙ inv
 
-  pub stops : (n : ℕ) → n ≡ length ls + 1 → n ≤ 256 → (above : List Line) → above ≡ ls → (r : Result (Line × Bor (List ℕ)) LineFault) (after : Marks) → stepped r after ≡ step_of above ms xs
-      → (e : Rejection) → Err e ≡ at_line n r → Err e ≡ want
+  pub stops : (n : ℕ) → n ≡ length ls + 1 → n ≤ 256 → (r : Result (Line × Bor (List ℕ)) Rejection) (after : Marks) → stepped r after ≡ at_line n (step_of ls ms xs)
+      → (e : Rejection) → Err e ≡ r → Err e ≡ want
   unfolding from
-  stops n is h above same r after step e at =
-      ap (from (256 - n) ls) (failed n r after e at ∙ ap (at_line n) (step ∙ ap (λ a. step_of a ms xs) same)) ∙ turned n is h
+  stops n is h r after step e at =
+      ap (from (256 - n) ls) (ap (λ q. stepped q after) at ∙ step) ∙ turned n is h
 
-  pub goes : (n : ℕ) → n ≡ length ls + 1 → n ≤ 256 → (above : List Line) → above ≡ ls → (r : Result (Line × Bor (List ℕ)) LineFault) (after : Marks) → stepped r after ≡ step_of above ms xs
-      → (p : Line × Bor (List ℕ)) → Ok p ≡ at_line n r → (more : List Line) → more ≡ ls ++ p.0 ∷ [] → body_of (256 - length more) more after p.1.now ≡ want
+  pub goes : (n : ℕ) → n ≡ length ls + 1 → n ≤ 256 → (r : Result (Line × Bor (List ℕ)) Rejection) (after : Marks) → stepped r after ≡ at_line n (step_of ls ms xs)
+      → (p : Line × Bor (List ℕ)) → Ok p ≡ r → (more : List Line) → more ≡ ls ++ p.0 ∷ [] → body_of (256 - length more) more after p.1.now ≡ want
   unfolding from
-  goes n is h above same r after step p at more pushed =
+  goes n is h r after step p at more pushed =
       let l = length_push ls p.0 in
       let y : 256 - length more ≡ 256 - n = ap (λ k. 256 - k) (ap length pushed ∙ l ∙ sym is) in
       (λ i. body_of (y i) (pushed i) after p.1.now)
-      ∙ ap (from (256 - n) ls) (passed n r after p at ∙ ap (at_line n) (step ∙ ap (λ a. step_of a ms xs) same)) ∙ turned n is h
-
-pub body_start : (ls : List Line) (ms : Marks) (xs : List ℕ) → ls ≡ [] → body_of (256 - length ls) ls ms xs ≡ body_of 256 [] ms xs
-body_start ls ms xs e = ap (λ k. body_of (256 - length k) k ms xs) e
+      ∙ ap (from (256 - n) ls) (ap (λ q. stepped q after) at ∙ step) ∙ turned n is h

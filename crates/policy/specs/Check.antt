@@ -75,17 +75,21 @@ last_four f = bind_r (at_field 3 (unused_of f.b)) (λ _. last_three f)
 
 -- a line of each kind, its fields from the left
 
+-- a line that names no other, of what its one field spells
+abbrev pub leaf_of : {A : Type 0} → Option A → (A → Line) → Six → Result Line LineFault
+leaf_of spelled line f = bind_r (at_field 2 (or_refuse spelled why.Misspelt)) (λ x. bind_r (last_four f) (λ _. Ok (line x)))
+
 abbrev pub truth_of : Bool → Six → Result Line LineFault
 truth_of b f = bind_r (at_field 2 (unused_of f.a)) (λ _. bind_r (last_four f) (λ _. Ok (l.Truth b)))
 
 abbrev pub attribute_of : Six → Result Line LineFault
-attribute_of f = bind_r (at_field 2 (or_refuse (name_of f.a) why.Misspelt)) (λ x. bind_r (last_four f) (λ _. Ok (l.Attribute x)))
+attribute_of f = leaf_of (name_of f.a) l.Attribute f
 
 abbrev pub number_line_of : Six → Result Line LineFault
-number_line_of f = bind_r (at_field 2 (or_refuse (number_of f.a) why.Misspelt)) (λ z. bind_r (last_four f) (λ _. Ok (l.Number z)))
+number_line_of f = leaf_of (number_of f.a) l.Number f
 
 abbrev pub text_line_of : Six → Result Line LineFault
-text_line_of f = bind_r (at_field 2 (or_refuse (text_of f.a) why.Misspelt)) (λ x. bind_r (last_four f) (λ _. Ok (l.Text x)))
+text_line_of f = leaf_of (text_of f.a) l.Text f
 
 abbrev pub not_of : List Line → Marks → Six → Result (Line × Marks) LineFault
 not_of ls ms f =
@@ -154,7 +158,7 @@ step_of ls ms xs =
     bind_r (at_field 0 (or_refuse (six_of (parts 32 p.0)) why.Shape)) (λ f.
     bind_r (line_of ls ms f) (λ s. Ok (s.0, s.1, p.1))))
 
-abbrev pub stepped : Result (Line × Bor (List ℕ)) LineFault → Marks → Result (Line × Marks × List ℕ) LineFault
+abbrev pub stepped : Result (Line × Bor (List ℕ)) Rejection → Marks → Result (Line × Marks × List ℕ) Rejection
 stepped (Ok p) ms = Ok (p.0, ms, p.1.now)
 stepped (Err e) ms = Err e
 

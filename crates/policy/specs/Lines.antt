@@ -19,21 +19,10 @@ family_of (l.Set c t i p d) = Policy
 
 abbrev pub same_family : Family → Family → Bool
 same_family Expression Expression = true
-same_family Expression Duty = false
-same_family Expression Item = false
-same_family Expression Policy = false
-same_family Duty Expression = false
 same_family Duty Duty = true
-same_family Duty Item = false
-same_family Duty Policy = false
-same_family Item Expression = false
-same_family Item Duty = false
 same_family Item Item = true
-same_family Item Policy = false
-same_family Policy Expression = false
-same_family Policy Duty = false
-same_family Policy Item = false
 same_family Policy Policy = true
+same_family _ _ = false
 
 -- line n, counted from 1
 abbrev pub line_at : List Line → ℕ → Line

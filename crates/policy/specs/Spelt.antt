@@ -1,7 +1,6 @@
 -- How a policy is spelled: each has one file.
 use Rattle.std.specs.Prelude.{ℕ, Bool, true, false, List, [], ◌∷◌, ◌++◌, Some, None, codes, decimal, Option}
 use Rattle.std.specs.Fmt.{signed_decimal}
-use Rattle.values.specs.Short.{name_bytes, text_bytes}
 use Rattle.spelling.specs.Algorithms.{combining_word}
 use Rattle.spelling.specs.Cuts.{Six}
 use Rattle.policy.specs.declared.line.Line.{Line}
@@ -46,9 +45,9 @@ six kind a b c d e = record { kind = kind; a = a; b = b; c = c; d = d; e = e }
 -- the six fields of a line
 abbrev pub fields_for : Line → Six
 fields_for (l.Truth b) = six (truth_word b) (codes "-") (codes "-") (codes "-") (codes "-") (codes "-")
-fields_for (l.Attribute x) = six (codes "attr") (name_bytes x) (codes "-") (codes "-") (codes "-") (codes "-")
+fields_for (l.Attribute x) = six (codes "attr") x (codes "-") (codes "-") (codes "-") (codes "-")
 fields_for (l.Number z) = six (codes "num") (signed_decimal z) (codes "-") (codes "-") (codes "-") (codes "-")
-fields_for (l.Text x) = six (codes "text") (text_bytes x) (codes "-") (codes "-") (codes "-") (codes "-")
+fields_for (l.Text x) = six (codes "text") x (codes "-") (codes "-") (codes "-") (codes "-")
 fields_for (l.Not j) = six (codes "not") (decimal j) (codes "-") (codes "-") (codes "-") (codes "-")
 fields_for (l.Binary op j k) = six (operator_word op) (decimal j) (decimal k) (codes "-") (codes "-") (codes "-")
 fields_for (l.Duty f a e d) = six (force_word f) (decimal a) (decimal e) (optional d) (codes "-") (codes "-")

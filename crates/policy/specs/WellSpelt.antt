@@ -1,7 +1,6 @@
 -- Which files a policy's lines have.
 use Rattle.std.specs.Prelude.{◌≡◌, ℕ, ◌<◌, ◌≤◌, List, length, Some, decimal}
 use Rattle.std.specs.Fmt.{signed_decimal}
-use Rattle.values.specs.Short.{name_bytes, text_bytes}
 use Rattle.spelling.specs.Numbers.{number_of, action_of}
 use Rattle.spelling.specs.Words.{name_of, text_of}
 use Rattle.policy.specs.declared.line.Line.{Line}
@@ -13,9 +12,9 @@ use Rattle.policy.specs.Tree.{Tree}
 -- a name, number, text or action that is read as it is written
 abbrev pub WellSpelt : Line → Type 0
 WellSpelt (l.Truth b) = Unit {0}
-WellSpelt (l.Attribute x) = name_of (name_bytes x) ≡ Some x
+WellSpelt (l.Attribute x) = name_of x ≡ Some x
 WellSpelt (l.Number z) = number_of (signed_decimal z) ≡ Some z
-WellSpelt (l.Text x) = text_of (text_bytes x) ≡ Some x
+WellSpelt (l.Text x) = text_of x ≡ Some x
 WellSpelt (l.Not j) = Unit {0}
 WellSpelt (l.Binary o j k) = Unit {0}
 WellSpelt (l.Duty f a e d) = action_of (decimal a) ≡ Some a

@@ -4,7 +4,6 @@ ghost use Rattle.std.specs.Prelude.{◌≡◌, ◌<◌, ◌≤◌, true, [], len
 ghost use Rattle.policy.specs.Tree.{Above, Once, last_is_policy};
 
 use crate::line::Line;
-use refusals::Rejection;
 
 // Empty memory, reserved for the lines of any policy.
 #[derive(Drop)]
@@ -28,8 +27,4 @@ pub struct Policy {
 }
 
 // A refusal, with the memory that was handed in.
-#[derive(Drop)]
-pub struct Refused {
-    pub rejection: Rejection,
-    pub room: Room,
-}
+pub type Refused = refusals::Refused<Room>;

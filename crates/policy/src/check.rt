@@ -1,11 +1,11 @@
 // The check of a policy file.
 
-ghost use Rattle.std.specs.Prelude.{◌≡◌, ◌≤◌, IfOk};
+ghost use Rattle.std.specs.Prelude.{◌≡◌, ◌≤◌, IfOk, vec_capacity};
 ghost use Rattle.policy.specs.Accepted.{lines_of, capacity_of, room_capacity, Checked, AcceptsTrees};
 ghost use Rattle.policy.specs.Tree.{Tree};
 
 use crate::accepted::{Policy, Refused, Room};
-use crate::body::read_file;
+use crate::draft::Draft;
 use crate::line::Line;
 use std::alloc::{AllocError, Global};
 
@@ -18,21 +18,29 @@ impl Room {
         Ok(Room { lines })
     }
 
+    // The memory of these lines, empty again.
+    fn emptied(mut lines: Vec<Line>) -> Room
+        requires { 256 ≤ vec_capacity lines }
+        ensures { room_capacity result ≡ vec_capacity lines }
+    {
+        lines.clear();
+        Room { lines }
+    }
+
     // Reads a policy file: the policy that it spells, or the first fault and the memory again.
     pub fn check(self, file: &[u8]) -> Result<Policy, Refused>
         ensures value { Checked file.now (room_capacity self) result }
         ensures trees { AcceptsTrees file.now result }
     {
-        let Room { mut lines } = self;
-        match read_file(file, &mut lines) {
+        let mut draft = Draft::new(self);
+        let read = draft.read_file(file);
+        let Draft { lines, .. } = draft;
+        match read {
             Ok(()) => Ok(Policy { lines }),
-            Err(rejection) => {
-                lines.clear();
-                Err(Refused {
-                    rejection,
-                    room: Room { lines },
-                })
-            }
+            Err(rejection) => Err(Refused {
+                rejection,
+                room: Room::emptied(lines),
+            }),
         }
     }
 }
@@ -49,8 +57,7 @@ impl Policy {
     pub fn into_room(self) -> Room
         ensures { room_capacity result ≡ capacity_of self }
     {
-        let Policy { mut lines } = self;
-        lines.truncate(0);
-        Room { lines }
+        let Policy { lines } = self;
+        Room::emptied(lines)
     }
 }

@@ -1,12 +1,11 @@
 // The 21 kinds of line, by their words.
 
 ghost use Rattle.std.specs.Prelude.{◌≡◌};
-ghost use Rattle.policy.specs.Kinds.{operator_named, leaf_named, branch_named, kind_of};
+ghost use Rattle.policy.specs.Kinds.{kind_of};
 
 use crate::line::{Effect, Force, Operator};
-use spelling::word::is;
 
-#[derive(Clone, Copy)]
+#[derive(Clone, Copy, PartialEq, Eq)]
 pub enum Kind {
     Truth(bool),
     Attribute,
@@ -20,81 +19,32 @@ pub enum Kind {
     Set,
 }
 
-fn operator_named(s: &[u8]) -> Option<Kind>
-    ensures { result ≡ operator_named s.now }
-{
-    if is(s, b"and") {
-        Some(Kind::Binary(Operator::And))
-    } else if is(s, b"or") {
-        Some(Kind::Binary(Operator::Or))
-    } else if is(s, b"equal") {
-        Some(Kind::Binary(Operator::Equal))
-    } else if is(s, b"in") {
-        Some(Kind::Binary(Operator::In))
-    } else if is(s, b"greater") {
-        Some(Kind::Binary(Operator::Greater))
-    } else if is(s, b"add") {
-        Some(Kind::Binary(Operator::Add))
-    } else if is(s, b"sub") {
-        Some(Kind::Binary(Operator::Sub))
-    } else if is(s, b"mul") {
-        Some(Kind::Binary(Operator::Mul))
-    } else if is(s, b"div") {
-        Some(Kind::Binary(Operator::Div))
-    } else {
-        None
-    }
-}
-
-fn leaf_named(s: &[u8]) -> Option<Kind>
-    ensures { result ≡ leaf_named s.now }
-{
-    if is(s, b"attr") {
-        Some(Kind::Attribute)
-    } else if is(s, b"num") {
-        Some(Kind::Number)
-    } else if is(s, b"text") {
-        Some(Kind::Text)
-    } else if is(s, b"not") {
-        Some(Kind::Not)
-    } else if is(s, b"true") {
-        Some(Kind::Truth(true))
-    } else if is(s, b"false") {
-        Some(Kind::Truth(false))
-    } else {
-        None
-    }
-}
-
-fn branch_named(s: &[u8]) -> Option<Kind>
-    ensures { result ≡ branch_named s.now }
-{
-    if is(s, b"must") {
-        Some(Kind::Duty(Force::Must))
-    } else if is(s, b"may") {
-        Some(Kind::Duty(Force::May))
-    } else if is(s, b"item") {
-        Some(Kind::Item)
-    } else if is(s, b"permit") {
-        Some(Kind::Rule(Effect::Permit))
-    } else if is(s, b"deny") {
-        Some(Kind::Rule(Effect::Deny))
-    } else if is(s, b"set") {
-        Some(Kind::Set)
-    } else {
-        None
-    }
-}
-
 // The kind that the first field of a line names.
 pub fn read_kind(s: &[u8]) -> Option<Kind>
     ensures { result ≡ kind_of s.now }
 {
-    match leaf_named(s) {
-        Some(kind) => Some(kind),
-        None => match operator_named(s) {
-            Some(kind) => Some(kind),
-            None => branch_named(s),
-        },
+    match s {
+        b"attr" => Some(Kind::Attribute),
+        b"num" => Some(Kind::Number),
+        b"text" => Some(Kind::Text),
+        b"not" => Some(Kind::Not),
+        b"true" => Some(Kind::Truth(true)),
+        b"false" => Some(Kind::Truth(false)),
+        b"and" => Some(Kind::Binary(Operator::And)),
+        b"or" => Some(Kind::Binary(Operator::Or)),
+        b"equal" => Some(Kind::Binary(Operator::Equal)),
+        b"in" => Some(Kind::Binary(Operator::In)),
+        b"greater" => Some(Kind::Binary(Operator::Greater)),
+        b"add" => Some(Kind::Binary(Operator::Add)),
+        b"sub" => Some(Kind::Binary(Operator::Sub)),
+        b"mul" => Some(Kind::Binary(Operator::Mul)),
+        b"div" => Some(Kind::Binary(Operator::Div)),
+        b"must" => Some(Kind::Duty(Force::Must)),
+        b"may" => Some(Kind::Duty(Force::May)),
+        b"item" => Some(Kind::Item),
+        b"permit" => Some(Kind::Rule(Effect::Permit)),
+        b"deny" => Some(Kind::Rule(Effect::Deny)),
+        b"set" => Some(Kind::Set),
+        _ => None,
     }
 }

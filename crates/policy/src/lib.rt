@@ -5,6 +5,7 @@
 pub mod accepted;
 mod body;
 mod check;
+mod draft;
 mod fields;
 mod forms;
 pub mod kind;

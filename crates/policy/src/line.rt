@@ -1,7 +1,7 @@
 // A line of a policy file, read.
 
 ghost use Rattle.std.specs.Prelude.{◌≡◌};
-ghost use Rattle.policy.specs.Lines.{family_of, same_family};
+ghost use Rattle.policy.specs.Lines.{family_of};
 
 use spelling::Combining;
 use values::{Name, Text};
@@ -9,7 +9,7 @@ use values::{Name, Text};
 // Lines are counted from 1.
 pub type LineNumber = u16;
 
-#[derive(Clone, Copy)]
+#[derive(Clone, Copy, PartialEq, Eq)]
 pub enum Operator {
     And,
     Or,
@@ -23,19 +23,19 @@ pub enum Operator {
 }
 
 // Whether a duty that fails stops the duties after it.
-#[derive(Clone, Copy)]
+#[derive(Clone, Copy, PartialEq, Eq)]
 pub enum Force {
     Must,
     May,
 }
 
-#[derive(Clone, Copy)]
+#[derive(Clone, Copy, PartialEq, Eq)]
 pub enum Effect {
     Permit,
     Deny,
 }
 
-#[derive(Clone, Copy)]
+#[derive(Clone, Copy, PartialEq, Eq)]
 pub enum Family {
     Expression,
     Duty,
@@ -72,20 +72,6 @@ impl Line {
             Line::Duty(_, _, _, _) => Family::Duty,
             Line::Item(_, _) => Family::Item,
             Line::Rule(_, _, _) | Line::Set(_, _, _, _, _) => Family::Policy,
-        }
-    }
-}
-
-impl Family {
-    pub fn is(self, other: Family) -> bool
-        ensures { result ≡ same_family self other }
-    {
-        match (self, other) {
-            (Family::Expression, Family::Expression) => true,
-            (Family::Duty, Family::Duty) => true,
-            (Family::Item, Family::Item) => true,
-            (Family::Policy, Family::Policy) => true,
-            _ => false,
         }
     }
 }

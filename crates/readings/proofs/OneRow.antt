@@ -1,18 +1,21 @@
 -- Where the cells of one row lie, and the names and cells that are left of it.
-use Rattle.std.proofs.Common.{◌≡◌, ℕ, zero, suc, ◌+◌, ◌*◌, ◌<◌, ◌≤◌, min, ◌⊎◌, List, [], ◌∷◌, map, length, get_or, take, drop, Some, sym, refl, ap, ◌∙◌, inl, inr, suc-mul, zero-mul, arith}
-use Rattle.std.proofs.lemmas.List.{drop_all, take_all, drop-drop, drop-map, take-map}
+use Rattle.std.proofs.Common.{◌≡◌, ℕ, zero, suc, ◌+◌, ◌*◌, ◌<◌, ◌≤◌, min, Bool, true, false, cond, List, [], ◌∷◌, length, get_or, take, drop, Some, None, Option, MatchOption, Bor, sym, refl, ap, ◌∙◌, inl, inr, suc-mul, zero-mul, arith}
+use Rattle.std.proofs.lemmas.List.{drop_all, drop-drop}
 use Rattle.std.proofs.lemmas.Bool.{cases_lt}
-use Rattle.values.specs.Short.{name_bytes}
-use Rattle.values.specs.Values.{Val, missing, val_of}
-use Rattle.values.specs.declared.short.Name.{Name}
+use Rattle.std.specs.List.{find, zip}
+use Rattle.std.specs.Option.{option_map, option_map_or}
+use Rattle.std.specs.Str.{bytes_eq}
 use Rattle.values.specs.declared.value.Value.{Value}
+use Rattle.values.specs.declared.value.Value.TheVariants.{Missing as missing}
+use Rattle.values.specs.Short.{Name}
+use Rattle.values.specs.declared.value.Value.TheVariants as kinds
 use Rattle.readings.specs.Outcome.{rows_in, names_in}
 use Rattle.readings.specs.Rows.{row_map, row_vals, map_in, map_at, RowIs}
 use Rattle.readings.specs.declared.row.Row.{Row}
 use Rattle.readings.specs.declared.table.Readings.{Readings}
 
 -- a row lies past those before it
-pub row_at : (width n : ℕ) (vs : List Val) (i : ℕ) → i < n → get_or (rows_in width n vs) i [] ≡ take width (drop (i * width) vs)
+pub row_at : (width n : ℕ) (vs : List Value) (i : ℕ) → i < n → get_or (rows_in width n vs) i [] ≡ take width (drop (i * width) vs)
 row_at width zero vs i h = absurd (omega arith)
 row_at width (suc n) vs zero h = rw zero-mul
 row_at width (suc n) vs (suc i) h =
@@ -23,22 +26,31 @@ row_at width (suc n) vs (suc i) h =
 pub drop_min : {A : Type 0} (n m : ℕ) (xs : List A) → length xs ≤ m → drop (min n m) xs ≡ drop n xs
 drop_min n m xs h = elim (cases_lt n m) [ inl l ↦ (let e : min n m ≡ n = omega arith in rw e) | inr l ↦ drop_all (min n m) xs (omega arith) ∙ sym (drop_all n xs (omega arith)) ]
 
-pub take_min : {A : Type 0} (n m : ℕ) (xs : List A) → length xs ≤ m → take (min n m) xs ≡ take n xs
-take_min n m xs h = elim (cases_lt n m) [ inl l ↦ (let e : min n m ≡ n = omega arith in rw e) | inr l ↦ take_all (min n m) xs (omega arith) ∙ sym (take_all n xs (omega arith)) ]
-
 -- the cells of a row, where a product past all cells may stop at a top
 pub row-cells : (width n i top start : ℕ) (cells row : List Value) → i < n → length cells ≤ top → start ≡ min (i * width) top → row ≡ take width (drop start cells)
-    → map val_of row ≡ get_or (rows_in width n (map val_of cells)) i []
+    → row ≡ get_or (rows_in width n cells) i []
 row-cells width n i top start cells row l h s r =
     let e : row ≡ take width (drop (i * width) cells) = r ∙ ap (λ k. take width (drop k cells)) s ∙ ap (take width) (drop_min (i * width) top cells h) in
-    ap (map val_of) e ∙ sym (take-map val_of width (drop (i * width) cells)) ∙ ap (take width) (sym (drop-map val_of (i * width) cells)) ∙ sym (row_at width n (map val_of cells) i l)
+    e ∙ sym (row_at width n cells i l)
 
--- no name or no cell is left
-pub none_left : (names : List Name) (cells : List Value) (x : List ℕ) → (names ≡ []) ⊎ (cells ≡ []) → row_map (map name_bytes names) (map val_of cells) x ≡ missing
-none_left [] cells x h = refl
-none_left (n ∷ names) [] x h = refl
-none_left (n ∷ names) (v ∷ cells) x (inl h) = let e = ap length h in absurd (omega arith)
-none_left (n ∷ names) (v ∷ cells) x (inr h) = let e = ap length h in absurd (omega arith)
+-- a name beside its value has the name x
+abbrev pub is_named : List ℕ → Name × Value → Bool
+is_named x p = bytes_eq p.0 x
+
+first_or_later : (x : List ℕ) (p : Name × Value) (o : Option (Name × Value)) (b : Bool) → option_map_or (λ q. q.1) (cond b (Some p) o) missing ≡ cond b p.1 (option_map_or (λ q. q.1) o missing)
+first_or_later x p o true = refl
+first_or_later x p o false = refl
+
+-- the first that has it tells what the row has for it
+pub row_found : (names : List Name) (cells : List Value) (x : List ℕ) → option_map_or (λ p. p.1) (find (is_named x) (zip names cells)) missing ≡ row_map names cells x
+row_found [] cells x = refl
+row_found (n ∷ names) [] x = refl
+row_found (n ∷ names) (v ∷ cells) x =
+    first_or_later x (n, v) (find (is_named x) (zip names cells)) (bytes_eq n x) ∙ ap (cond (bytes_eq n x) v) (row_found names cells x)
+
+pub told : (r : Option (Bor Name × Bor Value)) (v : Value) → MatchOption r (v ≡ kinds.Missing) (λ p. v ≡ p.1.now) → v ≡ option_map_or (λ (p : Name × Value). p.1) (option_map (λ (p : Bor Name × Bor Value). (p.0.now, p.1.now)) r) missing
+told None v h = h
+told (Some p) v h = h
 
 -- what a row has for a name is what the readings have there
 pub row-map : (readings : Readings) (index : ℕ) (row : Row) → RowIs readings index (Some row) → (x : List ℕ) → map_in row x ≡ map_at readings index x

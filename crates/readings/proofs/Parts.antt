@@ -1,94 +1,107 @@
 -- Parts counted, and parts read one after the other.
-use Rattle.std.proofs.Common.{◌≡◌, ℕ, suc, ◌+◌, ◌<◌, ◌≤◌, Bool, true, false, cond, ◌||◌, eqb, List, [], ◌∷◌, ◌++◌, map, length, get_or, drop, Some, None, Ok, Err, Option, Result, sym, refl, ap, ◌∙◌, append_assoc, arith}
-use Rattle.std.proofs.lemmas.List.{at_drop_more}
+use Rattle.std.proofs.Common.{◌≡◌, ℕ, ◌+◌, ◌≤◌, eqb, cond, ◌||◌, List, [], ◌∷◌, ◌++◌, length, Some, Ok, Err, MatchResult, Result, Bor, sym, refl, ap, ◌∙◌, subst, append_assoc, arith}
+use Rattle.std.specs.List.{slice_split, onto_first, list_any}
 use Rattle.std.specs.Str.{bytes_eq}
-use Rattle.values.specs.Short.{name_bytes}
-use Rattle.values.specs.Values.{Val}
-use Rattle.values.specs.declared.short.Name.{Name}
+use Rattle.std.proofs.lemmas.List.{append-nil}
+use Rattle.std.proofs.lemmas.List.Splits.{length-slice_split}
+use Rattle.std.proofs.lemmas.List.Sums.{count_by-le-length}
+use Rattle.values.specs.declared.value.Value.{Value}
+use Rattle.values.specs.Short.{Name}
 use Rattle.spelling.specs.Cells.{cell_of}
 use Rattle.spelling.specs.Cuts.{parts, cut_of, onto}
-use Rattle.spelling.proofs.Cuts.{parts_none, parts-some, some-part}
+use Rattle.spelling.proofs.Cuts.{parts-some}
 use Rattle.refusals.specs.Results.{bind_r, or_refuse}
 use Rattle.refusals.specs.Places.{at_field}
+use Rattle.refusals.specs.declared.cause.Cause.{Cause}
 use Rattle.refusals.specs.declared.cause.Cause.TheVariants as why
 use Rattle.refusals.specs.declared.place.LineFault.{LineFault}
 use Rattle.readings.specs.Table.{among, fresh_name, names_from, cells_from}
-use Rattle.readings.specs.Read.{after}
+use Rattle.readings.specs.Read.{after, items_as, ReadInTurn}
 
-onto-length : (x : ℕ) (ps : List (List ℕ)) (q : List ℕ) (qs : List (List ℕ)) → ps ≡ q ∷ qs → length (onto x ps) ≡ length ps
-onto-length x [] q qs e = let z = ap length e in absurd (omega (arith, z))
-onto-length x (p ∷ ps) q qs e = refl
+onto_same : (x : ℕ) (ps : List (List ℕ)) → onto x ps ≡ onto_first x ps
+onto_same x [] = refl
+onto_same x (p ∷ ps) = refl
 
-count_step : (x : ℕ) (ps : List (List ℕ)) (t : Bool) (q : List ℕ) (qs : List (List ℕ)) → ps ≡ q ∷ qs → length (cond t ([] ∷ ps) (onto x ps)) ≡ cond t 1 0 + length ps
-count_step x ps true q qs e = omega arith
-count_step x ps false q qs e = let l = onto-length x ps q qs e in omega (arith, l)
-
--- one part more for each separator
-pub count_more : (b x : ℕ) (xs : List ℕ) → length (parts b (x ∷ xs)) ≡ cond (eqb x b) 1 0 + length (parts b xs)
-count_more b x xs = let s = some-part b xs in count_step x (parts b xs) (eqb x b) s.0 s.1.0 s.1.1
-
-bit_step : (t : Bool) (m n : ℕ) → m ≤ n + 1 → cond t 1 0 + m ≤ suc n + 1
-bit_step true m n h = omega arith
-bit_step false m n h = omega arith
+-- the parts are those that the library's `split` gives
+pub parts_split : (b : ℕ) (xs : List ℕ) → parts b xs ≡ slice_split (λ x. eqb x b) xs
+parts_split b [] = refl
+parts_split b (x ∷ xs) =
+    let e = parts_split b xs in
+    ap (λ ps. cond (eqb x b) ([] ∷ ps) (onto x ps)) e ∙ ap (λ ps. cond (eqb x b) ([] ∷ slice_split (λ y. eqb y b) xs) ps) (onto_same x (slice_split (λ y. eqb y b) xs))
 
 -- there are no more parts than bytes, but for one
 pub parts-short : (b : ℕ) (xs : List ℕ) → length (parts b xs) ≤ length xs + 1
-parts-short b [] = omega arith
-parts-short b (x ∷ xs) = let e = count_more b x xs in let s = bit_step (eqb x b) (length (parts b xs)) (length xs) (parts-short b xs) in omega (arith, e, s)
-
--- the names by one cut, as the code goes
-abbrev pub names_by : ℕ → List (List ℕ) → List ℕ → Option (List ℕ × List ℕ) → Result (List (List ℕ)) LineFault
-names_by field before xs None = bind_r (at_field field (fresh_name before xs)) (λ x. Ok (before ++ x ∷ []))
-names_by field before xs (Some p) = bind_r (at_field field (fresh_name before p.0)) (λ x. names_from (field + 1) (before ++ x ∷ []) (parts 32 p.1))
-
-pub names-cut : (field : ℕ) (before : List (List ℕ)) (xs : List ℕ) → names_from field before (parts 32 xs) ≡ names_by field before xs (cut_of 32 xs)
-names-cut field before xs = at (cut_of 32 xs) refl where
-  at : (o : Option (List ℕ × List ℕ)) → cut_of 32 xs ≡ o → names_from field before (parts 32 xs) ≡ names_by field before xs o
-  at None h = ap (names_from field before) (parts_none 32 xs h)
-  at (Some p) h = ap (names_from field before) (parts-some 32 xs p h)
-
--- the cells likewise
-abbrev pub cells_by : ℕ → List Val → List ℕ → Option (List ℕ × List ℕ) → Result (List Val) LineFault
-cells_by field before xs None = bind_r (at_field field (or_refuse (cell_of xs) why.CellMisspelt)) (λ v. Ok (before ++ v ∷ []))
-cells_by field before xs (Some p) = bind_r (at_field field (or_refuse (cell_of p.0) why.CellMisspelt)) (λ v. after (before ++ v ∷ []) (cells_from (field + 1) (parts 32 p.1)))
-
-after_one : {E : Type 0} (before : List Val) (v : Val) (r : Result (List Val) E) → after before (bind_r r (λ vs. Ok (v ∷ vs))) ≡ after (before ++ v ∷ []) r
-after_one before v (Ok vs) = ap Ok (sym (append_assoc before (v ∷ []) vs))
-after_one before v (Err e) = refl
-
-after-all : (before : List Val) (o : Result Val LineFault) (r : Result (List Val) LineFault) → after before (bind_r o (λ v. bind_r r (λ vs. Ok (v ∷ vs)))) ≡ bind_r o (λ v. after (before ++ v ∷ []) r)
-after-all before (Ok v) r = after_one before v r
-after-all before (Err e) r = refl
-
-last_one : (before : List Val) (o : Result Val LineFault) → after before (bind_r o (λ v. bind_r (Ok []) (λ vs. Ok (v ∷ vs)))) ≡ bind_r o (λ v. Ok (before ++ v ∷ []))
-last_one before (Ok v) = refl
-last_one before (Err e) = refl
-
-pub cells_cut : (field : ℕ) (before : List Val) (xs : List ℕ) → after before (cells_from field (parts 32 xs)) ≡ cells_by field before xs (cut_of 32 xs)
-cells_cut field before xs = at (cut_of 32 xs) refl where
-  at : (o : Option (List ℕ × List ℕ)) → cut_of 32 xs ≡ o → after before (cells_from field (parts 32 xs)) ≡ cells_by field before xs o
-  at None h = ap (λ ps. after before (cells_from field ps)) (parts_none 32 xs h) ∙ last_one before (at_field field (or_refuse (cell_of xs) why.CellMisspelt))
-  at (Some p) h = ap (λ ps. after before (cells_from field ps)) (parts-some 32 xs p h) ∙ after-all before (at_field field (or_refuse (cell_of p.0) why.CellMisspelt)) (cells_from (field + 1) (parts 32 p.1))
+parts-short b xs =
+    let e = ap length (parts_split b xs) ∙ length-slice_split (λ x. eqb x b) xs in
+    let n = count_by-le-length (λ x. eqb x b) xs in
+    omega (arith, e, n)
 
 -- one part less after a cut
 pub one_less : (xs : List ℕ) (p : List ℕ × List ℕ) → cut_of 32 xs ≡ Some p → length (parts 32 xs) ≡ length (parts 32 p.1) + 1
 one_less xs p h = let e = ap length (parts-some 32 xs p h) in omega (arith, e)
 
--- one name of those that are left
-pub among-more : (s : List ℕ) (names : List Name) (i : ℕ) (x : Name) (bs : List ℕ) → i < length names → bs ≡ name_bytes (get_or names i x)
-    → among s (map name_bytes (drop i names)) ≡ bytes_eq bs s || among s (map name_bytes (drop (i + 1) names))
-among-more s names i x bs lt e =
-    at_drop_more (λ xs. among s (map name_bytes xs)) names i x lt ∙ ap (λ ys. bytes_eq ys s || among s (map name_bytes (drop (i + 1) names))) (sym e)
+-- a part of xs that was read: refused, or an item before those of the other parts
+module _ {A : Type 0} (Reads : Bor (List ℕ) → Bor (List A) → Result A Cause → Type 0) (field : ℕ) (before : List A) (xs : List ℕ) (part : Bor (List ℕ)) (ps : List (List ℕ)) (lies : parts 32 xs ≡ part.now ∷ ps) (seen : Bor (List A)) (sees : seen.now ≡ before) where
+  pub part-refused : (x : Result A Cause) → Reads part seen x → (e : LineFault) → Err e ≡ at_field field x → ReadInTurn Reads field before (parts 32 xs) (Err e) before
+  part-refused (Ok v) k e h = cc
+  part-refused (Err w) k e h =
+      let same : e ≡ record { cause = w; field = field } = cc in
+      subst (λ zs. ReadInTurn Reads field before zs (Err e) before) (sym lies) (part, seen, Err w, refl, sees, k, (ap Err same, refl))
+
+  pub part-read : (x : Result A Cause) → Reads part seen x → (v : A) → Ok v ≡ at_field field x → (r : Result (Unit {0}) LineFault) (items : List A) → ReadInTurn Reads (field + 1) (before ++ v ∷ []) ps r items → ReadInTurn Reads field before (parts 32 xs) r items
+  part-read (Ok w) k v h r items rest =
+      let same : v ≡ w = cc in
+      subst (λ zs. ReadInTurn Reads field before zs r items) (sym lies) (part, seen, Ok w, refl, sees, k, subst (λ u. ReadInTurn Reads (field + 1) (before ++ u ∷ []) ps r items) same rest)
+  part-read (Err e) k v h r items rest = cc
+
+-- what was read in turn is what the parts spell: `want` is that, after the items before
+module _ {A : Type 0} (spelled : List A → List ℕ → Result A Cause) (want : ℕ → List A → List (List ℕ) → Result (List A) LineFault)
+    (none : (n : ℕ) (ys : List A) → want n ys [] ≡ Ok ys)
+    (some : (n : ℕ) (ys : List A) (p : List ℕ) (ps : List (List ℕ)) → want n ys (p ∷ ps) ≡ bind_r (at_field n (spelled ys p)) (λ y. want (n + 1) (ys ++ y ∷ []) ps))
+    (Reads : Bor (List ℕ) → Bor (List A) → Result A Cause → Type 0)
+    (says : (part : Bor (List ℕ)) (seen : Bor (List A)) (x : Result A Cause) → Reads part seen x → x ≡ spelled seen.now part.now) where
+  one_read : (p : List ℕ) (ps : List (List ℕ)) (n : ℕ) (before : List A) (r : Result (Unit {0}) LineFault) (items : List A) (x : Result A Cause) → x ≡ spelled before p
+      → ((v : A) → ReadInTurn Reads (n + 1) (before ++ v ∷ []) ps r items → items_as r items ≡ want (n + 1) (before ++ v ∷ []) ps)
+      → MatchResult x (λ v. ReadInTurn Reads (n + 1) (before ++ v ∷ []) ps r items) (λ e. (r ≡ Err (record { cause = e; field = n })) × (items ≡ before))
+      → items_as r items ≡ want n before (p ∷ ps)
+  one_read p ps n before r items (Ok v) s others m =
+      others v m
+      ∙ ap (λ o. bind_r (at_field n o) (λ y. want (n + 1) (before ++ y ∷ []) ps)) s
+      ∙ sym (some n before p ps)
+  one_read p ps n before r items (Err e) s others m =
+      ap (λ q. items_as q items) m.0
+      ∙ ap (λ o. bind_r (at_field n o) (λ y. want (n + 1) (before ++ y ∷ []) ps)) s
+      ∙ sym (some n before p ps)
+
+  pub all-read : (ps : List (List ℕ)) (n : ℕ) (before : List A) (r : Result (Unit {0}) LineFault) (items : List A) → ReadInTurn Reads n before ps r items → items_as r items ≡ want n before ps
+  all-read [] n before r items h = ap (λ q. items_as q items) h.0 ∙ ap Ok h.1 ∙ sym (none n before)
+  all-read (p ∷ ps) n before r items h =
+      let s = says h.0 h.1 h.2 h.5 ∙ ap (λ xs. spelled xs h.0.now) h.4 ∙ ap (spelled before) h.3 in
+      one_read p ps n before r items h.2 s (λ v k. all-read ps (n + 1) (before ++ v ∷ []) r items k) h.6
+
+after-all : (before : List Value) (o : Result Value LineFault) (r : Result (List Value) LineFault) → after before (bind_r o (λ v. bind_r r (λ vs. Ok (v ∷ vs)))) ≡ bind_r o (λ v. after (before ++ v ∷ []) r)
+after-all before (Ok v) (Ok vs) = ap Ok (sym (append_assoc before (v ∷ []) vs))
+after-all before (Ok v) (Err e) = refl
+after-all before (Err e) r = refl
+
+-- the names, and the cells
+pub names-read : (Reads : Bor (List ℕ) → Bor (List Name) → Result Name Cause → Type 0)
+    (says : (part : Bor (List ℕ)) (seen : Bor (List Name)) (x : Result Name Cause) → Reads part seen x → x ≡ fresh_name seen.now part.now)
+    (ps : List (List ℕ)) (before : List Name) (r : Result (Unit {0}) LineFault) (items : List Name) → ReadInTurn Reads 1 before ps r items → items_as r items ≡ names_from 1 before ps
+names-read Reads says ps before = all-read fresh_name names_from (λ n ys. refl) (λ n ys p qs. refl) Reads says ps 1 before
+
+pub cells_read : (Reads : Bor (List ℕ) → Bor (List Value) → Result Value Cause → Type 0)
+    (says : (part : Bor (List ℕ)) (seen : Bor (List Value)) (x : Result Value Cause) → Reads part seen x → x ≡ or_refuse (cell_of part.now) why.CellMisspelt)
+    (ps : List (List ℕ)) (before : List Value) (r : Result (Unit {0}) LineFault) (items : List Value) → ReadInTurn Reads 1 before ps r items → items_as r items ≡ after before (cells_from 1 ps)
+cells_read Reads says ps before =
+    all-read (λ _ p. or_refuse (cell_of p) why.CellMisspelt) (λ n ys qs. after ys (cells_from n qs)) (λ n ys. ap Ok (append-nil ys))
+    (λ n ys p qs. after-all ys (at_field n (or_refuse (cell_of p) why.CellMisspelt)) (cells_from (n + 1) qs)) Reads says ps 1 before
+
+-- a name among others, as the library's `any` tells it
+pub among_any : (s : List ℕ) (names : List Name) → list_any (λ x. bytes_eq x s) names ≡ among s names
+among_any s [] = refl
+among_any s (x ∷ names) = ap (λ t. bytes_eq x s || t) (among_any s names)
 
 pub after-nil : {A E : Type 0} (r : Result (List A) E) → after [] r ≡ r
 after-nil (Ok xs) = refl
 after-nil (Err e) = refl
-
--- a test that came out so
-pub chosen : {A : Type 0} (t : Bool) (x y : A) → t ≡ true → x ≡ cond t x y
-chosen true x y h = refl
-chosen false x y h = let z : ◌≡◌ {A = ℕ} 0 1 = cc in absurd (omega arith)
-
-pub passed_over : {A : Type 0} (t : Bool) (x y : A) → t ≡ false → y ≡ cond t x y
-passed_over true x y h = let z : ◌≡◌ {A = ℕ} 0 1 = cc in absurd (omega arith)
-passed_over false x y h = refl

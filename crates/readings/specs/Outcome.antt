@@ -1,27 +1,24 @@
 -- The answer to a readings file.
-use Rattle.std.specs.Prelude.{◌≡◌, ℕ, zero, suc, List, [], ◌∷◌, map, length, take, drop, Ok, Err, vec_items, vec_capacity, Result}
-use Rattle.values.specs.Short.{name_bytes}
-use Rattle.values.specs.Values.{Val, val_of}
-use Rattle.values.specs.declared.short.Name.{Name}
+use Rattle.std.specs.Prelude.{◌≡◌, ℕ, zero, suc, List, [], ◌∷◌, length, take, drop, Ok, Err, vec_items, vec_capacity, Result}
 use Rattle.values.specs.declared.value.Value.{Value}
 use Rattle.refusals.specs.Limits.{small_of}
 use Rattle.refusals.specs.Results.{bind_r}
 use Rattle.refusals.specs.declared.place.Rejection.{Rejection}
+use Rattle.refusals.specs.declared.refused.Refused.{Refused}
 use Rattle.readings.specs.Table.{Table, table_of}
 use Rattle.readings.specs.declared.table.Readings.{Readings}
-use Rattle.readings.specs.declared.table.RefusedTable.{RefusedTable}
 use Rattle.readings.specs.declared.table.TableRoom.{TableRoom}
 
 -- n rows of a width, one after the other
-abbrev pub rows_in : ℕ → ℕ → List Val → List (List Val)
+abbrev pub rows_in : ℕ → ℕ → List Value → List (List Value)
 rows_in width zero vs = []
 rows_in width (suc n) vs = take width vs ∷ rows_in width n (drop width vs)
 
 abbrev pub names_in : Readings → List (List ℕ)
-names_in r = map name_bytes (vec_items r.names)
+names_in r = vec_items r.names
 
-abbrev pub cells_in : Readings → List Val
-cells_in r = map val_of (vec_items r.cells)
+abbrev pub cells_in : Readings → List Value
+cells_in r = vec_items r.cells
 
 -- the table that the readings hold
 abbrev pub table_in : Readings → Table
@@ -39,15 +36,16 @@ abbrev pub places_in : Readings → ℕ × ℕ
 places_in r = (vec_capacity r.names, vec_capacity r.cells)
 
 -- an accepted file gives its table, a refused one its fault; the memory keeps its places
-abbrev pub Answers : List ℕ → ℕ × ℕ → Result Readings RefusedTable → Type 0
+abbrev pub Answers : List ℕ → ℕ × ℕ → Result Readings (Refused TableRoom) → Type 0
 Answers file places (Ok r) = (readings_of file ≡ Ok (table_in r)) × (places_in r ≡ places)
 Answers file places (Err e) = (readings_of file ≡ Err e.rejection) × (places_of e.room ≡ places)
 
 -- the rows that were read, or the fault
-abbrev pub as_rows : ℕ → Result ℕ Rejection → List Value → Result (List (List Val)) Rejection
-as_rows width (Ok n) vs = Ok (rows_in width n (map val_of vs))
+abbrev pub as_rows : ℕ → Result ℕ Rejection → List Value → Result (List (List Value)) Rejection
+as_rows width (Ok n) vs = Ok (rows_in width n vs)
 as_rows width (Err e) vs = Err e
 
-abbrev pub as_table : Result ℕ Rejection → List Name → List Value → Result Table Rejection
-as_table (Ok n) xs vs = Ok (record { names = map name_bytes xs; rows = rows_in (length (map name_bytes xs)) n (map val_of vs) })
-as_table (Err e) xs vs = Err e
+-- the table that was read, or the fault
+abbrev pub as_table : Result (Unit {0}) Rejection → Readings → Result Table Rejection
+as_table (Ok u) r = Ok (table_in r)
+as_table (Err e) r = Err e

@@ -1,30 +1,30 @@
 -- The rows of accepted readings, and the value that a row has for a name.
-use Rattle.std.specs.Prelude.{◌≡◌, ℕ, ◌<◌, ◌≤◌, cond, List, [], ◌∷◌, map, Some, None, Option, slice_index_or}
+use Rattle.std.specs.Prelude.{◌≡◌, ℕ, ◌<◌, ◌≤◌, cond, List, [], ◌∷◌, Some, None, Option, slice_index_or}
 use Rattle.std.specs.Str.{bytes_eq}
-use Rattle.values.specs.Short.{name_bytes}
-use Rattle.values.specs.Values.{Val, missing, val_of}
+use Rattle.values.specs.declared.value.Value.{Value}
+use Rattle.values.specs.declared.value.Value.TheVariants.{Missing as missing}
 use Rattle.readings.specs.Outcome.{names_in, table_in}
 use Rattle.readings.specs.declared.table.Readings.{Readings}
 use Rattle.readings.specs.declared.row.Row.{Row}
 
 -- what a row has for a name: the value at the name's first place, missing where there is none
-abbrev pub row_map : List (List ℕ) → List Val → List ℕ → Val
+abbrev pub row_map : List (List ℕ) → List Value → List ℕ → Value
 row_map [] vs x = missing
 row_map (n ∷ ns) [] x = missing
 row_map (n ∷ ns) (v ∷ vs) x = cond (bytes_eq n x) v (row_map ns vs x)
 
 -- the names and the values that a row refers to
 abbrev pub row_names : Row → List (List ℕ)
-row_names row = map name_bytes row.names.now
+row_names row = row.names.now
 
-abbrev pub row_vals : Row → List Val
-row_vals row = map val_of row.cells.now
+abbrev pub row_vals : Row → List Value
+row_vals row = row.cells.now
 
-abbrev pub map_in : Row → List ℕ → Val
+abbrev pub map_in : Row → List ℕ → Value
 map_in row = row_map (row_names row) (row_vals row)
 
 -- what the readings have for a name in a row, by its number from 0
-abbrev pub map_at : Readings → ℕ → List ℕ → Val
+abbrev pub map_at : Readings → ℕ → List ℕ → Value
 map_at readings index = row_map (names_in readings) (slice_index_or (table_in readings).rows index [])
 
 -- a row by its number from 0; none past the last

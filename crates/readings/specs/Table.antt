@@ -1,9 +1,7 @@
 -- The check of a readings file: its table, or the first fault with its place.
 use Rattle.std.specs.Prelude.{ℕ, ◌+◌, Bool, false, cond, ◌||◌, List, [], ◌∷◌, ◌++◌, length, Ok, Err, Result, ◌==◌, nat_lt}
 use Rattle.std.specs.Str.{bytes_eq}
-use Rattle.values.specs.Options.{each}
-use Rattle.values.specs.Short.{name_bytes}
-use Rattle.values.specs.Values.{Val}
+use Rattle.values.specs.declared.value.Value.{Value}
 use Rattle.spelling.specs.Cells.{cell_of}
 use Rattle.spelling.specs.Cuts.{parts}
 use Rattle.spelling.specs.Words.{name_of}
@@ -17,7 +15,7 @@ use Rattle.refusals.specs.declared.place.Rejection.{Rejection}
 -- names as byte lists, and rows of values in their order
 pub record Table : Type 0 where
   pub names : List (List ℕ)
-  pub rows : List (List Val)
+  pub rows : List (List Value)
 
 abbrev pub among : List ℕ → List (List ℕ) → Bool
 among x [] = false
@@ -26,7 +24,7 @@ among x (y ∷ ys) = bytes_eq y x || among x ys
 -- a name that is spelled well and stands nowhere before
 abbrev pub fresh_name : List (List ℕ) → List ℕ → Result (List ℕ) Cause
 fresh_name before xs =
-    bind_r (or_refuse (each name_bytes (name_of xs)) why.NameMisspelt) (λ x.
+    bind_r (or_refuse (name_of xs) why.NameMisspelt) (λ x.
     cond (among x before) (Err why.NameRepeated) (Ok x))
 
 -- the names before, and those of the parts from a field on
@@ -41,20 +39,20 @@ names_of xs =
     (names_from 1 [] (parts 32 xs))
 
 -- the values of the parts from a field on
-abbrev pub cells_from : ℕ → List (List ℕ) → Result (List Val) LineFault
+abbrev pub cells_from : ℕ → List (List ℕ) → Result (List Value) LineFault
 cells_from field [] = Ok []
 cells_from field (p ∷ ps) =
     bind_r (at_field field (or_refuse (cell_of p) why.CellMisspelt)) (λ v.
     bind_r (cells_from (field + 1) ps) (λ vs. Ok (v ∷ vs)))
 
 -- one cell a name, with a space between
-abbrev pub row_of : ℕ → List ℕ → Result (List Val) LineFault
+abbrev pub row_of : ℕ → List ℕ → Result (List Value) LineFault
 row_of width xs =
     cond (length (parts 32 xs) == width) (cells_from 1 (parts 32 xs))
     (Err (record { cause = why.RowShape; field = 0 }))
 
 -- the rows from line n on; the last part follows the last byte 10, so it is empty
-abbrev pub rows_of : ℕ → ℕ → List (List ℕ) → Result (List (List Val)) Rejection
+abbrev pub rows_of : ℕ → ℕ → List (List ℕ) → Result (List (List Value)) Rejection
 rows_of n width [] = Ok []
 rows_of n width (q ∷ []) = cond (length q == 0) (Ok []) (Err (record { cause = why.RowShape; line = n; field = 0 }))
 rows_of n width (q ∷ r ∷ rs) =

@@ -4,7 +4,9 @@
 
 mod cells;
 mod check;
+mod line;
 mod names;
+mod read;
 pub mod row;
 pub mod table;
 

@@ -1,14 +1,13 @@
 // One row of a readings file.
 
 ghost use Rattle.std.specs.Prelude.{◌≡◌, take, drop};
-ghost use Rattle.values.specs.Values.{val_of};
 ghost use Rattle.readings.specs.Rows.{map_in, RowIs};
 
 use crate::table::Readings;
 use spelling::word::is;
 use values::{Name, Value};
 
-// The names, and their values in the same order.
+// The names, and their values in the same order: two slices lent from the table, since pairs would have to be copied into memory of their own.
 #[derive(Clone, Copy)]
 pub struct Row<'a> {
     pub names: &'a [Name],
@@ -18,14 +17,13 @@ pub struct Row<'a> {
 impl Row<'_> {
     // The value for a name; missing where the row has no such name.
     pub fn look_up(&self, name: &[u8]) -> Value
-        ensures { val_of result ≡ map_in self.now name.now }
+        ensures { result ≡ map_in self.now name.now }
     {
-        for (x, cell) in self.names.iter().zip(self.cells) {
-            if is(x.as_bytes(), name) {
-                return *cell;
-            }
-        }
-        Value::Missing
+        self.names
+            .iter()
+            .zip(self.cells)
+            .find(|(x, _)| is(x.as_bytes(), name))
+            .map_or(Value::Missing, |(_, cell)| *cell)
     }
 }
 

@@ -2,7 +2,7 @@
 
 ghost use Rattle.std.specs.Prelude.{◌≡◌, ◌≤◌, [], vec_capacity};
 
-use refusals::Rejection;
+use refusals::Refused;
 use values::{Name, Value};
 
 // Empty memory, reserved for the table of any readings file.
@@ -17,6 +17,7 @@ pub struct TableRoom {
 }
 
 // The names, and the values of all rows, one row after the other, in the order of the names.
+// One vector for the cells of all rows, with the number of rows beside it: a vector for each row would have to be allocated while the file is read.
 #[derive(Drop)]
 pub struct Readings {
     pub(crate) names: Vec<Name>,
@@ -27,8 +28,4 @@ pub struct Readings {
 }
 
 // A refusal, with the memory that was handed in.
-#[derive(Drop)]
-pub struct RefusedTable {
-    pub rejection: Rejection,
-    pub room: TableRoom,
-}
+pub type RefusedTable = Refused<TableRoom>;

@@ -2,6 +2,8 @@
 use Rattle.std.specs.Prelude.{ℕ, cond, ◌&&◌, ◌==◌, nat_le}
 use Rattle.refusals.specs.declared.cause.Cause.{Cause}
 use Rattle.refusals.specs.declared.cause.Cause.TheVariants as why
+use Rattle.refusals.specs.declared.cause.Layer.{Layer}
+use Rattle.refusals.specs.declared.cause.Layer.TheVariants.{Spelling, Tree, Memory}
 
 abbrev pub number_of : Cause → ℕ
 number_of why.Header = 1
@@ -26,3 +28,8 @@ number_of why.TooSmall = 11
 -- 2 tree for 5 to 7, 3 memory for 11, 1 spelling for the others
 abbrev pub layer_of : ℕ → ℕ
 layer_of n = cond (nat_le 5 n && nat_le n 7) 2 (cond (n == 11) 3 1)
+
+abbrev pub layer_number : Layer → ℕ
+layer_number Spelling = 1
+layer_number Tree = 2
+layer_number Memory = 3

@@ -1,9 +1,17 @@
 // The causes of a refusal.
 
 ghost use Rattle.std.specs.Prelude.{◌≡◌};
-ghost use Rattle.refusals.specs.Causes.{number_of, layer_of};
+ghost use Rattle.refusals.specs.Causes.{number_of, layer_of, layer_number};
 
-#[derive(Clone, Copy)]
+// The layer of the check that finds a fault.
+#[derive(Clone, Copy, PartialEq, Eq)]
+pub enum Layer {
+    Spelling,
+    Tree,
+    Memory,
+}
+
+#[derive(Clone, Copy, PartialEq, Eq)]
 pub enum Cause {
     // Line 0 of a policy file is absent, differs or does not end with byte 10.
     Header,
@@ -44,11 +52,26 @@ pub enum Cause {
 }
 
 impl Cause {
-    // The number by which the cause is reported.
-    pub fn number(self) -> u8
-        ensures { result ≡ number_of self }
+    // The layer that finds the cause.
+    pub fn layer(self) -> Layer
+        ensures { layer_number result ≡ layer_of (number_of self) }
     {
         match self {
+            Cause::NotAbove | Cause::WrongFamily => Layer::Tree,
+            Cause::NamedTwice | Cause::NeverNamed | Cause::LastNotPolicy => Layer::Tree,
+            Cause::LineCount => Layer::Tree,
+            Cause::TooSmall => Layer::Memory,
+            _ => Layer::Spelling,
+        }
+    }
+}
+
+// The number by which the cause is reported.
+impl From<Cause> for u8 {
+    ghost from_gives = { λ cause number. number ≡ number_of cause };
+
+    fn from(cause: Cause) -> u8 {
+        match cause {
             Cause::Header => 1,
             Cause::Shape => 2,
             Cause::UnknownKind | Cause::UnknownAlgorithm => 3,
@@ -63,15 +86,17 @@ impl Cause {
             Cause::TooSmall => 11,
         }
     }
+}
 
-    // The layer that finds it: 1 spelling, 2 tree, 3 memory.
-    pub fn layer(self) -> u8
-        ensures { result ≡ layer_of (number_of self) }
-    {
-        match self.number() {
-            5..=7 => 2,
-            11 => 3,
-            _ => 1,
+// The number by which the layer is reported.
+impl From<Layer> for u8 {
+    ghost from_gives = { λ layer number. number ≡ layer_number layer };
+
+    fn from(layer: Layer) -> u8 {
+        match layer {
+            Layer::Spelling => 1,
+            Layer::Tree => 2,
+            Layer::Memory => 3,
         }
     }
 }

@@ -5,6 +5,8 @@
 pub mod cause;
 pub mod limit;
 pub mod place;
+pub mod refused;
 
-pub use cause::Cause;
+pub use cause::{Cause, Layer};
 pub use place::{LineFault, Rejection};
+pub use refused::Refused;

@@ -14,11 +14,7 @@ pub fn within_limit(file: &[u8]) -> Result<(), Rejection>
     ensures { result ≡ small_of file.now }
 {
     if file.len() > FILE_LIMIT {
-        return Err(Rejection {
-            cause: Cause::TooSmall,
-            line: 0,
-            field: 0,
-        });
+        return Err(Rejection::of_file(Cause::TooSmall));
     }
     Ok(())
 }

@@ -1,15 +1,12 @@
 -- What was read is spelled in one way: each reader's value gives back the bytes.
-use Rattle.std.proofs.Common.{◌≡◌, ℕ, zero, suc, ◌+◌, ◌-◌, ◌*◌, ◌≤◌, Bool, true, false, cond, eqb, ltb, leb, List, [], ◌∷◌, ◌++◌, length, ℤ, pos, negsuc, neg_ℤ, Some, None, decimal, Option, sym, refl, ap, ◌∙◌, subst, ⊎_elim, arith, rules}
+use Rattle.std.proofs.Common.{◌≡◌, ℕ, zero, suc, ◌+◌, ◌-◌, ◌*◌, ◌≤◌, Bool, true, false, cond, eqb, ltb, leb, List, [], ◌∷◌, ◌++◌, length, ℤ, pos, negsuc, neg_ℤ, Some, None, decimal, Option, sym, refl, ap, ◌∙◌, ⊎_elim, arith, rules}
 use Rattle.std.proofs.lemmas.Fmt.{decimal-digits_value}
-use Rattle.std.proofs.lemmas.List.{take_at}
 use Rattle.std.proofs.lemmas.Str.Parse.{IsNumeralModel, numerals_by_fold}
 use Rattle.std.proofs.lemmas.Bool.{eqb-true, eqb-false}
 use Rattle.std.proofs.lemmas.Bool.Decides.{nat_tests}
 use Rattle.std.specs.Fmt.{signed_decimal}
 use Rattle.std.specs.Str.{all_ascii_digits, bytes_eq}
-use Rattle.values.specs.Short.{name_bytes, name_for, text_bytes, text_for}
-use Rattle.values.specs.declared.short.Name.{Name}
-use Rattle.values.specs.declared.short.Text.{Text}
+use Rattle.values.specs.Short.{Name, Text, name_for, text_for}
 use Rattle.spelling.specs.Algorithms.{algorithm_named, strategy_named, combining_of, algorithm_word, strategy_word, combining_word}
 use Rattle.spelling.specs.Cuts.{cut_of, parts, onto, Six, six_of}
 use Rattle.spelling.specs.Numbers.{is_digit, digits_after, natural_of, at_most, positive, negative, number_of, action_of, to_fifteen}
@@ -89,17 +86,17 @@ action_back xs k h =
     let p = bind-some (number_of xs) to_fifteen k h in
     ap signed_decimal (sym (fifteen p.0 k p.1.1)) ∙ number_back xs p.0 p.1.0
 
-pub name_back : (xs : List ℕ) (x : Name) → name_of xs ≡ Some x → name_bytes x ≡ xs
+pub name_back : (xs : List ℕ) (x : Name) → name_of xs ≡ Some x → x ≡ xs
 name_back xs x h =
     let p = held (is_word true xs) (name_for xs) x h in
     let q = past (ltb 24 (length xs)) _ x p.1 in
-    subst (λ (y : Name). name_bytes y ≡ xs) (some_same q.1) (take_at xs _ (length xs) refl)
+    sym (some_same q.1)
 
-pub text_back : (xs : List ℕ) (x : Text) → text_of xs ≡ Some x → text_bytes x ≡ xs
+pub text_back : (xs : List ℕ) (x : Text) → text_of xs ≡ Some x → x ≡ xs
 text_back xs x h =
     let p = held (is_text xs) (text_for xs) x h in
     let q = past (ltb 16 (length xs)) _ x p.1 in
-    subst (λ (y : Text). text_bytes y ≡ xs) (some_same q.1) (take_at xs _ (length xs) refl)
+    sym (some_same q.1)
 
 -- one word of a chain of words
 pub choice : {A : Type 0} (word : A → List ℕ) (t : Bool) (i : A) (r : Option A) (o : A) (xs : List ℕ) → (t ≡ true → xs ≡ word i) → (r ≡ Some o → xs ≡ word o) → cond t (Some i) r ≡ Some o → xs ≡ word o

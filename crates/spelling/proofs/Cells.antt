@@ -1,18 +1,16 @@
 -- Members joined by commas, read one after the other.
-use Rattle.std.proofs.Common.{◌≡◌, ℕ, suc, ◌+◌, ◌-◌, ◌*◌, ◌<◌, ◌≤◌, Bool, true, false, cond, not, ◌&&◌, eqb, ltb, leb, List, [], ◌∷◌, ◌++◌, map, length, get_or, Some, None, codes, Option, sym, refl, ap, ◌∙◌, subst, append_assoc, arith, length-append}
-use Rattle.std.proofs.lemmas.List.{length-map}
-use Rattle.std.proofs.lemmas.Bool.{true≢false}
+use Rattle.std.proofs.Common.{◌≡◌, ℕ, ◌+◌, ◌-◌, ◌*◌, ◌<◌, ◌≤◌, Bool, true, false, cond, not, ◌&&◌, eqb, ltb, leb, List, [], ◌∷◌, ◌++◌, length, get_or, Some, None, codes, Option, sym, refl, ap, ◌∙◌, subst, append_assoc, arith, length-append}
 use Rattle.std.proofs.lemmas.Bool.Decides.{nat_tests}
 use Rattle.std.specs.Str.{bytes_eq}
 use Rattle.values.specs.Options.{each, bind, or_else}
 use Rattle.values.specs.Sets.{joined}
-use Rattle.values.specs.Short.{text_bytes, text_for}
-use Rattle.values.specs.Values.{Val, missing, error, boolean, number, text, numbers, texts}
-use Rattle.values.specs.declared.short.Text.{Text}
+use Rattle.values.specs.Short.{text_for}
+use Rattle.values.specs.declared.value.Value.{Value}
+use Rattle.values.specs.declared.value.Value.TheVariants.{Missing as missing, Error as error, Bool as boolean, Number as number, Text as text, Numbers as numbers, Texts as texts}
 use Rattle.spelling.specs.Cuts.{parts, cut_of, onto}
 use Rattle.spelling.specs.Numbers.{is_digit, digits_after, natural_of, at_most, positive, negative, number_of}
 use Rattle.spelling.specs.Words.{is_letter, all_word_bytes, text_of}
-use Rattle.spelling.specs.Cells.{read_all, at_most_eight, gathered, text_in, word_of, cell_of}
+use Rattle.spelling.specs.Cells.{read_all, at_most_eight, gathered, word_of, cell_of}
 use Rattle.spelling.proofs.Cuts.{parts_none, parts-some, some-part}
 
 same_test : {A : Type 0} (before : List A) (x : A) → leb (length (before ++ x ∷ [])) 8 ≡ ltb (length before) 8
@@ -53,7 +51,7 @@ module _ {A : Type 0} (f : List ℕ → Option A) where
   unfolding more
   next_member xs p before h = ap (λ ps. bind (read_all f ps) (λ zs. at_most_eight (before ++ zs))) (parts-some 44 xs p h) ∙ some_of (f p.0) (read_all f (parts 44 p.1)) before
 
-  module _ (one : A → Val) (set : List A → Val) where
+  module _ (one : A → Value) (set : List A → Value) where
     lone : (o : Option A) → bind (bind o (λ x. each (λ xs. x ∷ xs) (Some []))) (gathered one set) ≡ each one o
     lone None = refl
     lone (Some x) = refl
@@ -92,44 +90,16 @@ more_cut {A = A} f xs before = at (cut_of 44 xs) refl where
   at None h = last_member f xs before h
   at (Some p) h = next_member f xs p before h
 
-abbrev pub gathered_by : {A : Type 0} → (List ℕ → Option A) → (A → Val) → (List A → Val) → List ℕ → Option (List ℕ × List ℕ) → Option Val
+abbrev pub gathered_by : {A : Type 0} → (List ℕ → Option A) → (A → Value) → (List A → Value) → List ℕ → Option (List ℕ × List ℕ) → Option Value
 gathered_by f one set xs None = each one (f xs)
 gathered_by f one set xs (Some p) = bind (f p.0) (λ x. each set (bind (read_all f (parts 44 p.1)) (λ zs. at_most_eight (x ∷ zs))))
 
-pub gathered-cut : {A : Type 0} (f : List ℕ → Option A) (one : A → Val) (set : List A → Val) (xs : List ℕ) → bind (read_all f (parts 44 xs)) (gathered one set) ≡ gathered_by f one set xs (cut_of 44 xs)
+pub gathered_cut : {A : Type 0} (f : List ℕ → Option A) (one : A → Value) (set : List A → Value) (xs : List ℕ) → bind (read_all f (parts 44 xs)) (gathered one set) ≡ gathered_by f one set xs (cut_of 44 xs)
 unfolding more
-gathered-cut {A = A} f one set xs = at (cut_of 44 xs) refl where
+gathered_cut {A = A} f one set xs = at (cut_of 44 xs) refl where
   at : (o : Option (List ℕ × List ℕ)) → cut_of 44 xs ≡ o → bind (read_all f (parts 44 xs)) (gathered one set) ≡ gathered_by f one set xs o
   at None h = only_member f one set xs h
   at (Some p) h = several f one set xs p h
-
--- texts by their bytes
-pub read_bytes : (ps : List (List ℕ)) → read_all text_in ps ≡ each (map text_bytes) (read_all text_of ps)
-read_bytes [] = refl
-read_bytes (p ∷ ps) = ap (λ r. bind (text_in p) (λ x. each (λ xs. x ∷ xs) r)) (read_bytes ps) ∙ both (text_of p) (read_all text_of ps) where
-  both : (o : Option Text) (r : Option (List Text)) → bind (each text_bytes o) (λ x. each (λ xs. x ∷ xs) (each (map text_bytes) r)) ≡ each (map text_bytes) (bind o (λ x. each (λ xs. x ∷ xs) r))
-  both None r = refl
-  both (Some x) None = refl
-  both (Some x) (Some xs) = refl
-
-gathered-bytes : (ts : List Text) → gathered text texts (map text_bytes ts) ≡ gathered (λ t. text (text_bytes t)) (λ us. texts (map text_bytes us)) ts
-gathered-bytes [] = refl
-gathered-bytes (t ∷ []) = refl
-gathered-bytes (t ∷ u ∷ us) =
-    let e = length-map us text_bytes in
-    count_bytes (leb (length (t ∷ u ∷ us)) 8) (leb (length (map text_bytes (t ∷ u ∷ us))) 8) (ap (λ n. leb (suc (suc n)) 8) (sym e)) where
-      count_bytes : (b d : Bool) → b ≡ d → each texts (cond d (Some (map text_bytes (t ∷ u ∷ us))) None) ≡ each (λ vs. texts (map text_bytes vs)) (cond b (Some (t ∷ u ∷ us)) None)
-      count_bytes true true h = refl
-      count_bytes false false h = refl
-      count_bytes true false h = absurd (true≢false h)
-      count_bytes false true h = absurd (true≢false (sym h))
-
-pub texts_cut : (xs : List ℕ) → bind (read_all text_in (parts 44 xs)) (gathered text texts) ≡ gathered_by text_of (λ t. text (text_bytes t)) (λ us. texts (map text_bytes us)) xs (cut_of 44 xs)
-texts_cut xs =
-    ap (λ r. bind r (gathered text texts)) (read_bytes (parts 44 xs)) ∙ inside (read_all text_of (parts 44 xs)) ∙ gathered-cut text_of (λ t. text (text_bytes t)) (λ us. texts (map text_bytes us)) xs where
-      inside : (r : Option (List Text)) → bind (each (map text_bytes) r) (gathered text texts) ≡ bind r (gathered (λ t. text (text_bytes t)) (λ us. texts (map text_bytes us)))
-      inside None = refl
-      inside (Some ts) = gathered-bytes ts
 
 -- a letter begins no number, and nothing but a letter begins a text
 no_natural : (b : ℕ) (q : List ℕ) → is_letter b ≡ true → natural_of (b ∷ q) ≡ None
@@ -144,8 +114,8 @@ no_number b q h =
     let m : eqb b 45 ≡ false = grind (arith, nat_tests) in
     (λ i. cond (m i) (negative (at_most 2147483648 (natural_of q))) (positive (at_most 2147483647 (no_natural b q h i))))
 
-no_text : (b : ℕ) (q : List ℕ) → is_letter b ≡ false → text_in (b ∷ q) ≡ None
-no_text b q h = ap (λ t. each text_bytes (cond ((t && all_word_bytes false q) && (not (bytes_eq (b ∷ q) (codes "true")) && not (bytes_eq (b ∷ q) (codes "false")))) (text_for (b ∷ q)) None)) h
+no_text : (b : ℕ) (q : List ℕ) → is_letter b ≡ false → text_of (b ∷ q) ≡ None
+no_text b q h = ap (λ t. cond ((t && all_word_bytes false q) && (not (bytes_eq (b ∷ q) (codes "true")) && not (bytes_eq (b ∷ q) (codes "false")))) (text_for (b ∷ q)) None) h
 
 first_read : {A : Type 0} (f : List ℕ → Option A) (b : ℕ) (ps : List (List ℕ)) (t : Bool) → (t ≡ true → f [] ≡ None) → ((q : List ℕ) → f (b ∷ q) ≡ None) → read_all f (cond t ([] ∷ ps) (onto b ps)) ≡ None
 first_read f b ps true g h = ap (λ o. bind o (λ x. each (λ xs. x ∷ xs) (read_all f ps))) (g refl)
@@ -155,20 +125,20 @@ first_read f b (p ∷ ps) false g h = ap (λ o. bind o (λ x. each (λ xs. x ∷
 no_numbers : (b : ℕ) (bs : List ℕ) → is_letter b ≡ true → read_all number_of (parts 44 (b ∷ bs)) ≡ None
 no_numbers b bs h = first_read number_of b (parts 44 bs) (eqb b 44) (λ _. refl) (λ q. no_number b q h)
 
-no_texts : (b : ℕ) (bs : List ℕ) → is_letter b ≡ false → read_all text_in (parts 44 (b ∷ bs)) ≡ None
-no_texts b bs h = first_read text_in b (parts 44 bs) (eqb b 44) (λ _. refl) (λ q. no_text b q h)
+no_texts : (b : ℕ) (bs : List ℕ) → is_letter b ≡ false → read_all text_of (parts 44 (b ∷ bs)) ≡ None
+no_texts b bs h = first_read text_of b (parts 44 bs) (eqb b 44) (λ _. refl) (λ q. no_text b q h)
 
 or_none : {A : Type 0} (o : Option A) → or_else o None ≡ o
 or_none None = refl
 or_none (Some x) = refl
 
 -- a cell that begins with a letter
-pub letter_cell : (b : ℕ) (bs : List ℕ) → is_letter b ≡ true → word_of (b ∷ bs) (bind (read_all text_in (parts 44 (b ∷ bs))) (gathered text texts)) ≡ cell_of (b ∷ bs)
+pub letter_cell : (b : ℕ) (bs : List ℕ) → is_letter b ≡ true → word_of (b ∷ bs) (bind (read_all text_of (parts 44 (b ∷ bs))) (gathered text texts)) ≡ cell_of (b ∷ bs)
 letter_cell b bs h =
     let m : eqb b 45 ≡ false = grind (arith, nat_tests) in
     let x : eqb b 33 ≡ false = grind (arith, nat_tests) in
     let n = no_numbers b bs h in
-    let t = bind (read_all text_in (parts 44 (b ∷ bs))) (gathered text texts) in
+    let t = bind (read_all text_of (parts 44 (b ∷ bs))) (gathered text texts) in
     sym (λ i. cond (m i && bytes_eq bs []) (Some missing) (cond (x i && bytes_eq bs []) (Some error) (word_of (b ∷ bs) (or_else (bind (n i) (gathered number numbers)) t))))
 
 -- a cell that begins with anything else, and is not one of the two marks
@@ -185,7 +155,7 @@ pub empty_cell : (xs : List ℕ) → length xs < 1 → None ≡ cell_of xs
 empty_cell [] h = refl
 empty_cell (x ∷ xs) h = absurd (omega arith)
 
-mark : (b : ℕ) (v : Val) → Some v ≡ cell_of (b ∷ []) → (xs : List ℕ) → length xs ≡ 1 → get_or xs 0 0 ≡ b → Some v ≡ cell_of xs
+mark : (b : ℕ) (v : Value) → Some v ≡ cell_of (b ∷ []) → (xs : List ℕ) → length xs ≡ 1 → get_or xs 0 0 ≡ b → Some v ≡ cell_of xs
 mark b v e [] n h = absurd (omega arith)
 mark b v e (x ∷ []) n h = e ∙ ap (λ y. cell_of (y ∷ [])) (sym h)
 mark b v e (x ∷ y ∷ xs) n h = absurd (omega arith)
@@ -196,7 +166,7 @@ minus_mark = mark 45 missing refl
 pub error_mark : (xs : List ℕ) → length xs ≡ 1 → get_or xs 0 0 ≡ 33 → Some error ≡ cell_of xs
 error_mark = mark 33 error refl
 
-pub letter_first : (xs : List ℕ) → 1 ≤ length xs → is_letter (get_or xs 0 0) ≡ true → word_of xs (bind (read_all text_in (parts 44 xs)) (gathered text texts)) ≡ cell_of xs
+pub letter_first : (xs : List ℕ) → 1 ≤ length xs → is_letter (get_or xs 0 0) ≡ true → word_of xs (bind (read_all text_of (parts 44 xs)) (gathered text texts)) ≡ cell_of xs
 letter_first [] n h = absurd (omega arith)
 letter_first (b ∷ bs) n h = letter_cell b bs h
 

@@ -1,8 +1,10 @@
 -- Cutting once and cutting at every separator.
-use Rattle.std.proofs.Common.{◌≡◌, ℕ, suc, ◌+◌, ◌<◌, ◌≤◌, Bool, true, false, cond, eqb, ltb, List, [], ◌∷◌, length, take, drop, Some, None, Option, refl, ap, ◌∙◌, subst, ⊎_elim, add-one, arith, length-drop}
-use Rattle.std.proofs.lemmas.Bool.{eqb-true, eqb-false, cases_Bool}
+use Rattle.std.proofs.Common.{◌≡◌, ℕ, suc, ◌+◌, ◌<◌, ◌≤◌, Bool, true, false, cond, not, eqb, ltb, List, [], ◌∷◌, length, take, drop, Some, None, Option, sym, refl, ap, ◌∙◌, subst, ⊎_elim, add-one, arith, length-drop}
+use Rattle.std.proofs.lemmas.Bool.{eqb-true, eqb-false, cases_Bool, true≢false}
 use Rattle.std.proofs.lemmas.Bool.Decides.{nat_tests}
-use Rattle.values.specs.Options.{bind}
+use Rattle.std.specs.List.{position, position_or_len}
+use Rattle.std.specs.Option.{is_some}
+use Rattle.values.specs.Options.{each, bind}
 use Rattle.spelling.specs.Cuts.{reach, cut_of, onto, parts, Six, six_of}
 
 -- one part where there is no separator
@@ -84,6 +86,39 @@ sixth k a b c d xs false h =
     let all : reach 32 xs ≡ length xs = grind (arith, nat_tests) in
     ap (λ ps. six_of (k ∷ a ∷ b ∷ c ∷ d ∷ ps)) (whole 32 xs all)
 
+-- the same by the library's search for the first separator
+first_step_of : (r n : ℕ) (t : Bool) → r ≡ n → cond t 0 (r + 1) ≡ cond (not t) (1 + n) 0
+first_step_of r n true h = refl
+first_step_of r n false h = omega (arith, h)
+
+pub reach_is : (b : ℕ) (xs : List ℕ) → reach b xs ≡ position_or_len (λ x. eqb x b) xs
+reach_is b [] = refl
+reach_is b (x ∷ xs) = first_step_of (reach b xs) (position_or_len (λ y. eqb y b) xs) (eqb x b) (reach_is b xs)
+
+abbrev pub cut_before : List ℕ → ℕ → List ℕ × List ℕ
+cut_before xs i = (take i xs, drop (i + 1) xs)
+
+cut_by : (xs : List ℕ) (r n : ℕ) → r ≡ n → r ≤ length xs → cond (eqb r (length xs)) None (Some (cut_before xs r)) ≡ each (cut_before xs) (cond (ltb n (length xs)) (Some n) None)
+cut_by xs r n e h = by (eqb r (length xs)) (ltb n (length xs)) (grind (arith, nat_tests)) where
+  by : (t u : Bool) → u ≡ not t → cond t None (Some (cut_before xs r)) ≡ each (cut_before xs) (cond u (Some n) None)
+  by true true p = absurd (true≢false p)
+  by true false p = refl
+  by false true p = ap (λ i. Some (cut_before xs i)) e
+  by false false p = absurd (true≢false (sym p))
+
+pub cut_at : (b : ℕ) (xs : List ℕ) → cut_of b xs ≡ each (cut_before xs) (position (λ x. eqb x b) xs)
+cut_at b xs = cut_by xs (reach b xs) (position_or_len (λ x. eqb x b) xs) (reach_is b xs) (reach-within b xs)
+
+pub cut_found : (b : ℕ) (xs : List ℕ) (i : ℕ) (before after : List ℕ) → position (λ x. eqb x b) xs ≡ Some i → before ≡ take i xs → after ≡ drop (i + 1) xs → Some (before, after) ≡ cut_of b xs
+cut_found b xs i before after p q r = (λ k. Some (q k, r k)) ∙ sym (cut_at b xs ∙ ap (each (cut_before xs)) p)
+
+is_some_of : (t : Bool) (n : ℕ) → is_some (cond t (Some n) None) ≡ t
+is_some_of true n = refl
+is_some_of false n = refl
+
+found : (b : ℕ) (xs : List ℕ) → is_some (position (λ x. eqb x b) xs) ≡ ltb (reach b xs) (length xs)
+found b xs = is_some_of (ltb (position_or_len (λ x. eqb x b) xs) (length xs)) (position_or_len (λ x. eqb x b) xs) ∙ ap (λ n. ltb n (length xs)) (sym (reach_is b xs))
+
 -- the six fields by five cuts
 abbrev pub six_by : List ℕ → Option Six
 six_by xs =
@@ -92,17 +127,17 @@ six_by xs =
     bind (cut_of 32 q.1) (λ r.
     bind (cut_of 32 r.1) (λ s.
     bind (cut_of 32 s.1) (λ t.
-    cond (ltb (reach 32 t.1) (length t.1)) None
+    cond (is_some (position (λ x. eqb x 32) t.1)) None
     (Some (record { kind = p.0; a = q.0; b = r.0; c = s.0; d = t.0; e = t.1 })))))))
 
-pub six-by_cuts : (xs : List ℕ) → six_of (parts 32 xs) ≡ six_by xs
-six-by_cuts =
+pub six_by_cuts : (xs : List ℕ) → six_of (parts 32 xs) ≡ six_by xs
+six_by_cuts =
     cut_step 32 six_of _ (λ _. refl) (λ p.
     cut_step 32 (λ ps. six_of (p.0 ∷ ps)) _ (λ _. refl) (λ q.
     cut_step 32 (λ ps. six_of (p.0 ∷ q.0 ∷ ps)) _ (λ _. refl) (λ r.
     cut_step 32 (λ ps. six_of (p.0 ∷ q.0 ∷ r.0 ∷ ps)) _ (λ _. refl) (λ s.
     cut_step 32 (λ ps. six_of (p.0 ∷ q.0 ∷ r.0 ∷ s.0 ∷ ps)) _ (λ _. refl) (λ t.
-    sixth p.0 q.0 r.0 s.0 t.0 t.1 (ltb (reach 32 t.1) (length t.1)) refl) s.1) r.1) q.1) p.1)
+    sixth p.0 q.0 r.0 s.0 t.0 t.1 (is_some (position (λ x. eqb x 32) t.1)) (sym (found 32 t.1))) s.1) r.1) q.1) p.1)
 
 pub cut_shorter : (b : ℕ) (xs : List ℕ) (p : List ℕ × List ℕ) → cut_of b xs ≡ Some p → length p.1 < length xs
 cut_shorter b xs p h = ⊎_elim

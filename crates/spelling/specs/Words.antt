@@ -1,9 +1,8 @@
 -- The spelling of names and texts.
 use Rattle.std.specs.Prelude.{ℕ, Bool, true, false, cond, not, ◌&&◌, ◌||◌, List, [], ◌∷◌, None, codes, Option, ◌==◌, nat_le}
+use Rattle.std.specs.List.{list_all}
 use Rattle.std.specs.Str.{bytes_eq}
-use Rattle.values.specs.declared.short.Name.{Name}
-use Rattle.values.specs.declared.short.Text.{Text}
-use Rattle.values.specs.Short.{name_for, text_for}
+use Rattle.values.specs.Short.{Name, Text, name_for, text_for}
 use Rattle.spelling.specs.Numbers.{is_digit}
 
 abbrev pub is_letter : ℕ → Bool
@@ -14,8 +13,7 @@ abbrev pub is_word_byte : Bool → ℕ → Bool
 is_word_byte slash b = is_letter b || (is_digit b || (b == 45 || (slash && b == 47)))
 
 abbrev pub all_word_bytes : Bool → List ℕ → Bool
-all_word_bytes slash [] = true
-all_word_bytes slash (b ∷ bs) = is_word_byte slash b && all_word_bytes slash bs
+all_word_bytes slash bs = list_all (is_word_byte slash) bs
 
 -- a letter and then word bytes
 abbrev pub is_word : Bool → List ℕ → Bool

@@ -4,7 +4,6 @@ ghost use Rattle.std.specs.Prelude.{◌≡◌};
 ghost use Rattle.spelling.specs.Algorithms.{algorithm_named, strategy_named, combining_of};
 
 use crate::cut::cut;
-use crate::word::is;
 
 #[derive(Clone, Copy)]
 pub enum Algorithm {
@@ -35,36 +34,26 @@ pub struct Combining {
 fn algorithm_named(s: &[u8]) -> Option<Algorithm>
     ensures { result ≡ algorithm_named s.now }
 {
-    if is(s, b"p-over") {
-        Some(Algorithm::PermitOverrides)
-    } else if is(s, b"d-over") {
-        Some(Algorithm::DenyOverrides)
-    } else if is(s, b"d-unless-p") {
-        Some(Algorithm::DenyUnlessPermit)
-    } else if is(s, b"p-unless-d") {
-        Some(Algorithm::PermitUnlessDeny)
-    } else if is(s, b"first-app") {
-        Some(Algorithm::FirstApplicable)
-    } else if is(s, b"one-app") {
-        Some(Algorithm::OneApplicable)
-    } else if is(s, b"weak-con") {
-        Some(Algorithm::WeakConsensus)
-    } else if is(s, b"strong-con") {
-        Some(Algorithm::StrongConsensus)
-    } else {
-        None
+    match s {
+        b"p-over" => Some(Algorithm::PermitOverrides),
+        b"d-over" => Some(Algorithm::DenyOverrides),
+        b"d-unless-p" => Some(Algorithm::DenyUnlessPermit),
+        b"p-unless-d" => Some(Algorithm::PermitUnlessDeny),
+        b"first-app" => Some(Algorithm::FirstApplicable),
+        b"one-app" => Some(Algorithm::OneApplicable),
+        b"weak-con" => Some(Algorithm::WeakConsensus),
+        b"strong-con" => Some(Algorithm::StrongConsensus),
+        _ => None,
     }
 }
 
 fn strategy_named(s: &[u8]) -> Option<Strategy>
     ensures { result ≡ strategy_named s.now }
 {
-    if is(s, b"all") {
-        Some(Strategy::All)
-    } else if is(s, b"greedy") {
-        Some(Strategy::Greedy)
-    } else {
-        None
+    match s {
+        b"all" => Some(Strategy::All),
+        b"greedy" => Some(Strategy::Greedy),
+        _ => None,
     }
 }
 

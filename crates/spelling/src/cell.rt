@@ -1,78 +1,122 @@
 // Cells of a readings file.
 
-ghost use Rattle.std.specs.Prelude.{◌≡◌, ◌++◌};
-ghost use Rattle.values.specs.Options.{each, bind};
-ghost use Rattle.values.specs.Sets.{numbers_in, texts_in};
-ghost use Rattle.values.specs.Values.{val_of, number as a_number, numbers as some_numbers, text as a_text, texts as some_texts};
+ghost use Rattle.std.specs.Prelude.{◌≡◌, ◌++◌, List, ℕ, Option};
+ghost use Rattle.values.specs.Options.{bind};
+ghost use Rattle.values.specs.declared.value.Value.{Value};
+ghost use Rattle.values.specs.declared.value.Value.TheVariants.{Number as a_number, Numbers as some_numbers, Text as a_text, Texts as some_texts};
+ghost use Rattle.std.specs.Mem.{FitsInMemory};
+ghost use Rattle.values.specs.contracts.few.Few.{the_row as few_row};
 ghost use Rattle.spelling.specs.Cuts.{parts};
 ghost use Rattle.spelling.specs.Numbers.{number_of};
 ghost use Rattle.spelling.specs.Words.{text_of};
-ghost use Rattle.spelling.specs.Cells.{read_all, at_most_eight, gathered, text_in, word_of, cell_of};
+ghost use Rattle.spelling.specs.Cells.{read_all, at_most_eight, gathered, word_of, cell_of};
 
 use crate::cut::cut;
 use crate::number::number;
 use crate::word::{is, text};
-use values::{NumberSet, TextSet, Value};
+use values::{Few, Text, Value};
 
-// The numbers of `set` and those that `s` spells, joined by commas.
-fn more_numbers(s: &[u8], set: NumberSet) -> Option<NumberSet>
-    ensures { each numbers_in result ≡ bind (read_all number_of (parts 44 s.now)) (λ zs. at_most_eight (numbers_in set ++ zs)) }
-{
-    match cut(s, b',') {
-        None => set.with(number(s)?),
-        Some((member, rest)) => more_numbers(rest, set.with(number(member)?)?),
+// What a cell may have one or several of.
+trait Member: Copy {
+    ghost spelt: { List ℕ → Option Self };
+
+    ghost alone: { Self → Value };
+
+    ghost together: { List Self → Value };
+
+    fn read(s: &[u8]) -> Option<Self>
+        ensures { result ≡ spelt s.now };
+
+    fn alone(self) -> Value
+        ensures { result ≡ alone self };
+
+    fn together(set: Few<Self>) -> Value
+        ensures { result ≡ together set };
+}
+
+impl Member for i32 {
+    ghost spelt = { number_of };
+
+    ghost alone = { a_number };
+
+    ghost together = { some_numbers };
+
+    fn read(s: &[u8]) -> Option<i32> {
+        number(s)
+    }
+
+    fn alone(self) -> Value {
+        Value::Number(self)
+    }
+
+    fn together(set: Few<i32>) -> Value
+        ensures { result ≡ some_numbers set }
+    {
+        Value::Numbers(set)
     }
 }
 
-// A number, or a set of numbers joined by commas.
-fn numbers(s: &[u8]) -> Option<Value>
-    ensures { each val_of result ≡ bind (read_all number_of (parts 44 s.now)) (gathered a_number some_numbers) }
-{
-    match cut(s, b',') {
-        None => Some(Value::Number(number(s)?)),
-        Some((member, rest)) => Some(Value::Numbers(more_numbers(
-            rest,
-            NumberSet::one(number(member)?),
-        )?)),
+impl Member for Text {
+    ghost spelt = { text_of };
+
+    ghost alone = { a_text };
+
+    ghost together = { some_texts };
+
+    fn read(s: &[u8]) -> Option<Text> {
+        text(s)
+    }
+
+    fn alone(self) -> Value {
+        Value::Text(self)
+    }
+
+    fn together(set: Few<Text>) -> Value
+        ensures { result ≡ some_texts set }
+    {
+        Value::Texts(set)
     }
 }
 
-// The texts of `set` and those that `s` spells, joined by commas.
-fn more_texts(s: &[u8], set: TextSet) -> Option<TextSet>
-    ensures { each texts_in result ≡ bind (read_all text_of (parts 44 s.now)) (λ ts. at_most_eight (texts_in set ++ ts)) }
+// The members of `set` and those that `s` spells, joined by commas.
+// A recursion over one cut, as the definitions of parts are: a `for` over `split` in a generic function gets no proof.
+fn more<T: Member>(s: &[u8], set: Few<T>) -> Option<Few<T>>
+    requires { FitsInMemory (few_row T.row) }
+    ensures { result ≡ bind (read_all T.spelt (parts 44 s.now)) (λ xs. at_most_eight (set ++ xs)) }
 {
     match cut(s, b',') {
-        None => set.with(text(s)?),
-        Some((member, rest)) => more_texts(rest, set.with(text(member)?)?),
+        None => set.with(T::read(s)?),
+        Some((member, rest)) => more(rest, set.with(T::read(member)?)?),
     }
 }
 
-// A text, or a set of texts joined by commas.
-fn texts(s: &[u8]) -> Option<Value>
-    ensures { each val_of result ≡ bind (read_all text_in (parts 44 s.now)) (gathered a_text some_texts) }
+// One member, or a set of members joined by commas.
+fn members<T: Member>(s: &[u8]) -> Option<Value>
+    requires { FitsInMemory (few_row T.row) }
+    ensures { result ≡ bind (read_all T.spelt (parts 44 s.now)) (gathered T.alone T.together) }
 {
     match cut(s, b',') {
-        None => Some(Value::Text(text(s)?)),
-        Some((member, rest)) => Some(Value::Texts(more_texts(rest, TextSet::one(text(member)?))?)),
+        None => Some(T::read(s)?.alone()),
+        Some((member, rest)) => Some(T::together(more(rest, Few::one(T::read(member)?))?)),
     }
 }
 
 // A boolean, a text or a set of texts.
 fn words(s: &[u8]) -> Option<Value>
-    ensures { each val_of result ≡ word_of s.now (bind (read_all text_in (parts 44 s.now)) (gathered a_text some_texts)) }
+    ensures { result ≡ word_of s.now (bind (read_all text_of (parts 44 s.now)) (gathered a_text some_texts)) }
 {
     if is(s, b"true") {
         Some(Value::Bool(true))
     } else if is(s, b"false") {
         Some(Value::Bool(false))
     } else {
-        texts(s)
+        members::<Text>(s)
     }
 }
 
 // What a cell spells, if anything.
 pub fn cell(s: &[u8]) -> Option<Value>
-    ensures { each val_of result ≡ cell_of s.now }
+    ensures { result ≡ cell_of s.now }
 {
     match s {
         [] => None,
@@ -80,7 +124,7 @@ pub fn cell(s: &[u8]) -> Option<Value>
             '-' if s.len() == 1 => Some(Value::Missing),
             '!' if s.len() == 1 => Some(Value::Error),
             'a'..='z' => words(s),
-            _ => numbers(s),
+            _ => members::<i32>(s),
         },
     }
 }

@@ -1,8 +1,9 @@
 // Cutting bytes at a separator.
 
-ghost use Rattle.std.specs.Prelude.{◌≡◌, ◌≤◌, length};
+ghost use Rattle.std.specs.Prelude.{◌≡◌, ◌<◌, ◌==◌, length, IfSome};
+ghost use Rattle.std.specs.List.{position};
 ghost use Rattle.values.specs.Options.{each};
-ghost use Rattle.spelling.specs.Cuts.{reach, cut_of, parts, Six, six_of};
+ghost use Rattle.spelling.specs.Cuts.{cut_of, parts, Six, six_of};
 ghost use Rattle.spelling.specs.Fields.{seen};
 
 // The six fields of a line of a policy file.
@@ -16,31 +17,24 @@ pub struct Fields<'a> {
     pub e: &'a [u8],
 }
 
-// How many bytes stand before the first `b`; all of them where there is none.
-pub fn position(s: &[u8], b: u8) -> usize
-    ensures value { result ≡ reach b s.now }
-    ensures bound { result ≤ length s.now }
+// How many bytes stand before the first `b`.
+pub fn position(s: &[u8], b: u8) -> Option<usize>
+    ensures value { result ≡ position (λ x. x == b) s.now }
+    ensures bound { IfSome result (λ i. i < length s.now) }
 {
-    for (i, x) in s.iter().enumerate() {
-        if *x == b {
-            return i;
-        }
-    }
-    s.len()
+    s.iter().position(|x| *x == b)
 }
 
 // What stands before the first `b` and after it.
 pub fn cut<'a>(s: &'a [u8], b: u8) -> Option<(&'a [u8], &'a [u8])>
     ensures { each (λ p. (p.0.now, p.1.now)) result ≡ cut_of b s.now }
 {
-    let i = position(s, b);
-    if i == s.len() {
-        return None;
-    }
-    Some((&s[0..i], &s[i + 1..]))
+    let i = position(s, b)?;
+    Some((&s[..i], &s[i + 1..]))
 }
 
 // The fields of a line that has exactly five spaces.
+#[tactic(auto, using(crate::proofs::Cuts::six_by_cuts))]
 pub fn split<'a>(s: &'a [u8]) -> Option<Fields<'a>>
     ensures { each seen result ≡ six_of (parts 32 s.now) }
 {
@@ -49,7 +43,7 @@ pub fn split<'a>(s: &'a [u8]) -> Option<Fields<'a>>
     let (b, after_b) = cut(after_a, b' ')?;
     let (c, after_c) = cut(after_b, b' ')?;
     let (d, e) = cut(after_c, b' ')?;
-    if position(e, b' ') < e.len() {
+    if position(e, b' ').is_some() {
         return None;
     }
     Some(Fields {

@@ -6,33 +6,30 @@ ghost use Rattle.spelling.specs.Numbers.{is_digit, digits_after, natural_of, at_
 fn is_digit(b: u8) -> bool
     ensures { result ≡ is_digit b }
 {
-    matches!(b, b'0'..=b'9')
+    b.is_ascii_digit()
 }
 
 // The number that the digits `s` spell, where it is at most `limit`.
-fn digits(s: &[u8], limit: u64) -> Option<u64>
-    requires { limit ≤ 4294967295 }
-    ensures value { result ≡ at_most limit (digits_after 0 s.now) }
-    ensures bound { IfSome result (λ n. n ≤ limit) }
+fn digits(s: &[u8], limit: u32) -> Option<u32>
+    ensures { result ≡ at_most limit (digits_after 0 s.now) }
 {
-    let mut n: u64 = 0;
+    let mut n: u32 = 0;
     for b in s {
         if !is_digit(*b) {
             return None;
         }
-        n = n * 10 + (*b - b'0') as u64;
-        if n > limit {
+        let longer = u64::from(n) * 10 + u64::from(*b - b'0');
+        if longer > u64::from(limit) {
             return None;
         }
+        n = longer as u32;
     }
     Some(n)
 }
 
 // The same with no zero in front of another digit.
-fn natural(s: &[u8], limit: u64) -> Option<u64>
-    requires { limit ≤ 4294967295 }
-    ensures value { result ≡ at_most limit (natural_of s.now) }
-    ensures bound { IfSome result (λ n. n ≤ limit) }
+fn natural(s: &[u8], limit: u32) -> Option<u32>
+    ensures { result ≡ at_most limit (natural_of s.now) }
 {
     match s {
         [] => None,
@@ -44,20 +41,16 @@ fn natural(s: &[u8], limit: u64) -> Option<u64>
 fn below_zero(s: &[u8]) -> Option<i32>
     ensures { result ≡ negative (at_most 2147483648 (natural_of s.now)) }
 {
-    match natural(s, 2147483648) {
-        Some(0) => None,
-        Some(n) => Some((-(n as i64)) as i32),
-        None => None,
+    match natural(s, 2147483648)? {
+        0 => None,
+        n => i32::try_from(-i64::from(n)).ok(),
     }
 }
 
 fn from_zero(s: &[u8]) -> Option<i32>
     ensures { result ≡ positive (at_most 2147483647 (natural_of s.now)) }
 {
-    match natural(s, 2147483647) {
-        Some(n) => Some(n as i32),
-        None => None,
-    }
+    i32::try_from(natural(s, 2147483647)?).ok()
 }
 
 // A number of 32 bits, with no zero in front of another digit and no `-0`.
@@ -80,9 +73,5 @@ pub fn line_number(s: &[u8]) -> Option<i32>
 pub fn action(field: &[u8]) -> Option<u8>
     ensures { result ≡ action_of field.now }
 {
-    let n = number(field)?;
-    if n < 0 || n > 15 {
-        return None;
-    }
-    Some(n as u8)
+    u8::try_from(number(field)?).ok().filter(|n| *n <= 15)
 }

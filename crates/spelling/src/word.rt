@@ -6,6 +6,7 @@ ghost use Rattle.spelling.specs.Words.{is_letter, is_word_byte, all_word_bytes, 
 
 use values::{Name, Text};
 
+// In place of `==`, which between bytes and a literal asks for `.as_slice()` after the literal.
 pub fn is(s: &[u8], word: &[u8]) -> bool
     ensures { result ≡ bytes_eq s.now word.now }
 {
@@ -15,7 +16,7 @@ pub fn is(s: &[u8], word: &[u8]) -> bool
 fn is_letter(b: u8) -> bool
     ensures { result ≡ is_letter b }
 {
-    matches!(b, b'a'..=b'z')
+    b.is_ascii_lowercase()
 }
 
 fn is_word_byte(b: u8, slash: bool) -> bool
@@ -31,12 +32,7 @@ fn is_word_byte(b: u8, slash: bool) -> bool
 fn all_word_bytes(s: &[u8], slash: bool) -> bool
     ensures { result ≡ all_word_bytes slash s.now }
 {
-    for b in s {
-        if !is_word_byte(*b, slash) {
-            return false;
-        }
-    }
-    true
+    s.iter().all(|b| is_word_byte(*b, slash))
 }
 
 // A letter and then letters, digits, `-` and, where `slash` is set, `/`.

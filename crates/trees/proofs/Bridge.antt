@@ -1,7 +1,9 @@
 -- That the policy with its readings in the place of the attributes answers as the policy does over any map that they agree with.
 use Rattle.std.proofs.Common.{◌≡◌, ℕ, zero, suc, ◌+◌, ◌-◌, ◌<◌, false, List, [], ◌∷◌, ◌++◌, length, get_or, Some, None, Option, refl, ap, ◌∙◌, subst, add-zero, arith}
 use Rattle.std.proofs.lemmas.List.{length_push}
-use Rattle.values.specs.Values.{Val}
+use Rattle.std.specs.List.{AllZip}
+use Rattle.std.proofs.lemmas.List.Elements.{AllZip-push, length_all_zip}
+use Rattle.values.specs.declared.value.Value.{Value}
 use Rattle.policy.specs.declared.line.Force.{Force}
 use Rattle.policy.specs.declared.line.Effect.{Effect}
 use Rattle.policy.specs.declared.line.Line.{Line}
@@ -12,7 +14,8 @@ use Rattle.combining.specs.declared.decision.Decision.{Decision}
 use Rattle.combining.specs.declared.decision.Decision.TheVariants.{Permit, Deny, NotApplicable, Indeterminate}
 use Rattle.combining.specs.Combined.{Response}
 use Rattle.trees.specs.Expressions.{Expression, Map, value_of}
-use Rattle.trees.specs.Duties.{Duties, Due, none, then, all_fulfilled, dues_of}
+use Rattle.trees.specs.declared.duty.Duty.{Duty}
+use Rattle.trees.specs.Duties.{Duties, none, then, all_fulfilled, dues_of}
 use Rattle.trees.specs.Policies.{Policy, rule, set, Items, one, more, respond, first, rest, on_target, appended, closed, closed_by, combined_by}
 use Rattle.trees.specs.Parts.{Part, expression, duties, items, policy, no_policy, no_part, as_expression, as_duties, as_items, as_policy, part_at, duties_at, items_with, part_for, parts_after, parts_of, named, policy_of}
 use Rattle.trees.specs.Known.{read_at, known, known_policy, nothing, wanted, Reads}
@@ -36,10 +39,7 @@ record Alike (m : Map) (p q : Part) : Type 0 where
 
 -- so place by place
 abbrev EachAlike : Map → List Part → List Part → Type 0
-EachAlike m [] [] = Unit {0}
-EachAlike m [] (q ∷ qs) = ⊥
-EachAlike m (p ∷ ps) [] = ⊥
-EachAlike m (p ∷ ps) (q ∷ qs) = Alike m p q × EachAlike m ps qs
+EachAlike m ps qs = AllZip (Alike m) ps qs
 
 module _ (m : Map) where
   no_duties : SameDuties m none none
@@ -76,10 +76,10 @@ module _ (m : Map) where
   unfolding respond
   same_more is js p q h e = record { head = h.head; tail = cc }
 
-  same_appended : (ds es : Duties) (r : Response Due) → SameDuties m ds es → appended nothing ds r ≡ appended m es r
+  same_appended : (ds es : Duties) (r : Response Duty) → SameDuties m ds es → appended nothing ds r ≡ appended m es r
   same_appended ds es r h = cc
 
-  same_closed : (ds es fs gs : Duties) → SameDuties m ds es → SameDuties m fs gs → (d : Decision) (r : Response Due) → closed nothing ds fs d r ≡ closed m es gs d r
+  same_closed : (ds es fs gs : Duties) → SameDuties m ds es → SameDuties m fs gs → (d : Decision) (r : Response Duty) → closed nothing ds fs d r ≡ closed m es gs d r
   same_closed ds es fs gs h k Permit r = same_appended ds es r h
   same_closed ds es fs gs h k Deny r = same_appended fs gs r k
   same_closed ds es fs gs h k NotApplicable r = refl
@@ -106,18 +106,6 @@ module _ (m : Map) where
   alike_at (p ∷ ps) (q ∷ qs) h zero = h.0
   alike_at (p ∷ ps) (q ∷ qs) h (suc n) = alike_at ps qs h.1 n
 
-  alike_push : (ps qs : List Part) (p q : Part) → EachAlike m ps qs → Alike m p q → EachAlike m (ps ++ p ∷ []) (qs ++ q ∷ [])
-  alike_push [] [] p q h a = (a, tt)
-  alike_push [] (y ∷ qs) p q h a = absurd h
-  alike_push (x ∷ ps) [] p q h a = absurd h
-  alike_push (x ∷ ps) (y ∷ qs) p q h a = (h.0, alike_push ps qs p q h.1 a)
-
-  as_long : (ps qs : List Part) → EachAlike m ps qs → length ps ≡ length qs
-  as_long [] [] h = refl
-  as_long [] (q ∷ qs) h = absurd h
-  as_long (p ∷ ps) [] h = absurd h
-  as_long (p ∷ ps) (q ∷ qs) h = ap suc (as_long ps qs h.1)
-
   duties_at_lem : (ps qs : List Part) → EachAlike m ps qs → (d : Option ℕ) → SameDuties m (duties_at ps d) (duties_at qs d)
   duties_at_lem ps qs h None = no_duties
   duties_at_lem ps qs h (Some n) = (alike_at ps qs h n).owed
@@ -128,13 +116,13 @@ module _ (m : Map) where
   items_with_lem ps qs h (Some n) p q e = same_more _ _ p q (alike_at ps qs h n).held e
 
   -- the part of a line that has read the map's value, if it is an attr line
-  part_alike : (vs : List Val) (n : ℕ) (ps qs : List Part) → EachAlike m ps qs → (x : Line) → read_at vs n ≡ wanted m x (read_at vs n) → Alike m (part_for (known vs) n ps x) (part_for named n qs x)
+  part_alike : (vs : List Value) (n : ℕ) (ps qs : List Part) → EachAlike m ps qs → (x : Line) → read_at vs n ≡ wanted m x (read_at vs n) → Alike m (part_for (known vs) n ps x) (part_for named n qs x)
   part_alike vs n ps qs h (l.Truth b) r = expressions _ _ refl
   part_alike vs n ps qs h (l.Attribute x) r = expressions _ _ r
   part_alike vs n ps qs h (l.Number z) r = expressions _ _ refl
   part_alike vs n ps qs h (l.Text x) r = expressions _ _ refl
   part_alike vs n ps qs h (l.Not j) r = expressions _ _ (ap not_of (alike_at ps qs h j).value)
-  part_alike vs n ps qs h (l.Binary o j k) r = let a = (alike_at ps qs h j).value in let b = (alike_at ps qs h k).value in expressions _ _ (cc)
+  part_alike vs n ps qs h (l.Binary o j k) r = let a = (alike_at ps qs h j).value in let b = (alike_at ps qs h k).value in expressions _ _ cc
   part_alike vs n ps qs h (l.Duty f a e d) r = all-duties _ _ (same_then _ _ f a _ _ (duties_at_lem ps qs h d) (alike_at ps qs h e).value)
   part_alike vs n ps qs h (l.Item p i) r = all-items _ _ (items_with_lem ps qs h i _ _ (alike_at ps qs h p).response)
   part_alike vs n ps qs h (l.Rule e t d) r = policies _ _ (same_rule e _ _ _ _ (alike_at ps qs h t).value (duties_at_lem ps qs h d))
@@ -142,12 +130,12 @@ module _ (m : Map) where
       policies _ _ (same_set c _ _ _ _ _ _ _ _ (alike_at ps qs h t).value (alike_at ps qs h i).held (duties_at_lem ps qs h p) (duties_at_lem ps qs h d))
 
   -- the lines that come after the parts ps have read the map's values
-  abbrev ReadsAfter : List Val → List Part → List Line → Type 0
+  abbrev ReadsAfter : List Value → List Part → List Line → Type 0
   ReadsAfter vs ps ls = (i : ℕ) → i < length ls → read_at vs (length ps + i) ≡ wanted m (get_or ls i (l.Truth false)) (read_at vs (length ps + i))
 
-  parts-alike : (vs : List Val) (ps qs : List Part) (ls : List Line) → EachAlike m ps qs → ReadsAfter vs ps ls → EachAlike m (parts_after (known vs) ps ls) (parts_after named qs ls)
+  parts-alike : (vs : List Value) (ps qs : List Part) (ls : List Line) → EachAlike m ps qs → ReadsAfter vs ps ls → EachAlike m (parts_after (known vs) ps ls) (parts_after named qs ls)
   parts-alike vs ps qs [] h r = h
-  parts-alike vs ps qs (x ∷ ls) h r = parts-alike vs (ps ++ p ∷ []) (qs ++ q ∷ []) ls (alike_push ps qs p q h alike) later
+  parts-alike vs ps qs (x ∷ ls) h r = parts-alike vs (ps ++ p ∷ []) (qs ++ q ∷ []) ls (AllZip-push (Alike m) ps qs p q h alike) later
     where
       p : Part
       p = part_for (known vs) (length ps) ps x
@@ -159,7 +147,7 @@ module _ (m : Map) where
       alike =
           let P : ℕ → Type 0 = λ n. read_at vs n ≡ wanted m x (read_at vs n) in
           let Q : ℕ → Type 0 = λ n. Alike m p (part_for named n qs x) in
-          subst Q (as_long ps qs h) (part_alike vs (length ps) ps qs h x (subst P (add-zero (length ps)) (r 0 (omega arith))))
+          subst Q (length_all_zip (Alike m) ps qs h) (part_alike vs (length ps) ps qs h x (subst P (add-zero (length ps)) (r 0 (omega arith))))
 
       later : ReadsAfter vs (ps ++ p ∷ []) ls
       later i b =
@@ -168,7 +156,7 @@ module _ (m : Map) where
           subst P e (r (suc i) (omega arith))
 
 -- the policy with its readings in the place of the attributes answers as the policy does over any map that they agree with
-pub known-respond : (ls : List Line) (vs : List Val) (m : Map) → Reads ls vs m → respond nothing (known_policy ls vs) ≡ respond m (policy_of ls)
+pub known-respond : (ls : List Line) (vs : List Value) (m : Map) → Reads ls vs m → respond nothing (known_policy ls vs) ≡ respond m (policy_of ls)
 unfolding parts_of
 known-respond ls vs m h = (alike_at m _ _ (parts-alike m vs (no_part ∷ []) (no_part ∷ []) ls (expressions m _ _ refl, tt) read) (length ls)).response
   where

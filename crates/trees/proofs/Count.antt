@@ -1,9 +1,12 @@
 -- That no response of a line's policy has more duties than the line's number.
 use Rattle.std.proofs.Common.{◌≡◌, ℕ, zero, suc, ◌+◌, ◌*◌, ◌<◌, ◌≤◌, Bool, true, false, cond, ◌||◌, eqb, List, [], ◌∷◌, ◌++◌, map, length, take, Some, None, Option, refl, ap, ◌∙◌, ⊎_elim, add-mul, arith, length-append}
 use Rattle.std.proofs.lemmas.List.{get_or_push, length_push}
+use Rattle.std.specs.List.{sum_by}
+use Rattle.std.proofs.lemmas.List.Sums.{sum_by-cons, sum_by_push, sum_by-take-le, sum_by-le-sum_by}
+use Rattle.std.proofs.lemmas.List.Concat.{length-flat_map}
 use Rattle.std.proofs.lemmas.Bool.{cases_eq}
 use Rattle.std.proofs.lemmas.Bool.Decides.{nat_tests}
-use Rattle.values.specs.Values.{Val}
+use Rattle.values.specs.declared.value.Value.{Value}
 use Rattle.spelling.specs.declared.algorithm.Strategy.{Strategy}
 use Rattle.operators.specs.Classes.{is_true, is_false, is_missing}
 use Rattle.combining.specs.declared.decision.Decision.{Decision}
@@ -17,7 +20,8 @@ use Rattle.policy.specs.declared.line.Family.TheVariants as family
 use Rattle.policy.specs.Lines.{Reference, may_name, references}
 use Rattle.policy.specs.Tree.{times, namings, Tree}
 use Rattle.trees.specs.Expressions.{Expression, Map, value_of}
-use Rattle.trees.specs.Duties.{Duties, none, then, Due, all_fulfilled, dues_of}
+use Rattle.trees.specs.declared.duty.Duty.{Duty}
+use Rattle.trees.specs.Duties.{Duties, none, then, all_fulfilled, dues_of}
 use Rattle.trees.specs.Policies.{Policy, rule, set, Items, one, more, bare, on_target, decision_for, appended, closed, respond, first, rest}
 use Rattle.trees.proofs.Grown.{kept}
 use Rattle.trees.specs.Parts.{Part, expression, duties, items, policy, no_part, as_duties, as_items, as_policy, part_at, duties_at, part_for, parts_after, parts_of}
@@ -50,65 +54,64 @@ dues_many : (m : Map) (ds : Duties) → length (dues_of m ds) ≡ many ds
 dues_many m none = refl
 dues_many m (then ds f a e) =
     let h = dues_many m ds in
-    let o : Due = record { force = f; action = a; argument = value_of m e } in
+    let o : Duty = record { force = f; action = a; argument = value_of m e } in
     let k = length_push (dues_of m ds) o in
     omega (arith, h, k)
 
 -- one of two responses, each with at most n duties
-either_few : (b : Bool) (r s : Response Due) (n : ℕ) → length r.duties ≤ n → length s.duties ≤ n → length (cond b r s).duties ≤ n
+either_few : (b : Bool) (r s : Response Duty) (n : ℕ) → length r.duties ≤ n → length s.duties ≤ n → length (cond b r s).duties ≤ n
 either_few true r s n h k = h
 either_few false r s n h k = k
 
 -- a target adds no duties
-target_few : (v : Val) (r : Response Due) (n : ℕ) → length r.duties ≤ n → length (on_target v r).duties ≤ n
+target_few : (v : Value) (r : Response Duty) (n : ℕ) → length r.duties ≤ n → length (on_target v r).duties ≤ n
 target_few v r n h =
     either_few (is_true v) r _ n h (either_few (is_false v || is_missing v) (bare NotApplicable) (bare Indeterminate) n (omega arith) (omega arith))
 
 -- a chain adds its own duties at most
-appended-few : (m : Map) (ds : Duties) (r : Response Due) (n : ℕ) → length r.duties + many ds ≤ n → length (appended m ds r).duties ≤ n
+appended-few : (m : Map) (ds : Duties) (r : Response Duty) (n : ℕ) → length r.duties + many ds ≤ n → length (appended m ds r).duties ≤ n
 appended-few m ds r n h =
     let k = length-append r.duties (dues_of m ds) in
     let j = dues_many m ds in
     either_few (all_fulfilled m ds) (record { decision = r.decision; duties = r.duties ++ dues_of m ds }) (bare Indeterminate) n (omega (arith, h, k, j)) (omega arith)
 
 -- a set adds the duties of both its chains at most
-closed-few : (m : Map) (p d : Duties) (x : Decision) (r : Response Due) (n : ℕ) → length r.duties + many p + many d ≤ n → length (closed m p d x r).duties ≤ n
+closed-few : (m : Map) (p d : Duties) (x : Decision) (r : Response Duty) (n : ℕ) → length r.duties + many p + many d ≤ n → length (closed m p d x r).duties ≤ n
 closed-few m p d Permit r n h = appended-few m p r n (omega (arith, h))
 closed-few m p d Deny r n h = appended-few m d r n (omega (arith, h))
 closed-few m p d NotApplicable r n h = omega arith
 closed-few m p d Indeterminate r n h = omega arith
 
 -- how many duties all children have
-abbrev all : List (Response Due) → ℕ
-all [] = 0
-all (r ∷ rs) = length r.duties + all rs
-
-all_push : (rs : List (Response Due)) (r : Response Due) → all (rs ++ r ∷ []) ≡ all rs + length r.duties
-all_push [] r = omega arith
-all_push (q ∷ rs) r = let h = all_push rs r in omega (arith, h)
+abbrev all : List (Response Duty) → ℕ
+all rs = sum_by (λ r. length r.duties) rs
 
 -- one of two lists is no longer than both
-one_or_few : (b : Bool) (xs ys : List Due) (n : ℕ) → length ys ≤ n → length (cond b xs ys) ≤ length xs + n
+one_or_few : (b : Bool) (xs ys : List Duty) (n : ℕ) → length ys ≤ n → length (cond b xs ys) ≤ length xs + n
 one_or_few true xs ys n h = omega arith
 one_or_few false xs ys n h = omega (arith, h)
 
 -- the duties joined over the first n children are no more than those of all
-joined-few : (d : Decision) (n : ℕ) (rs : List (Response Due)) → length (joined d (take n rs)) ≤ all rs
-joined-few d zero rs = omega arith
-joined-few d (suc n) [] = omega arith
-joined-few d (suc n) (r ∷ rs) =
-    let h = joined-few d n rs in
-    let t = one_or_few (same_decision d r.decision) r.duties [] 0 (omega arith) in
-    let e = length-append (taken d r) (joined d (take n rs)) in
-    omega (arith, h, t, e)
+joined-few : (d : Decision) (n : ℕ) (rs : List (Response Duty)) → length (joined d (take n rs)) ≤ all rs
+joined-few d n rs =
+    let e = length-flat_map (taken d) (take n rs) in
+    let h = sum_by-take-le (λ r. length (taken d r)) rs n in
+    let k = sum_by-le-sum_by (λ r. length (taken d r)) (λ r. length r.duties) rs few in
+    omega (arith, e, h, k)
+  where
+    few : (r : Response Duty) → length (taken d r) ≤ length r.duties
+    few r = let h = one_or_few (same_decision d r.decision) r.duties [] 0 (omega arith) in omega (arith, h)
 
 -- and so those of the first child taken
-first_few : (d : Decision) (n : ℕ) (rs : List (Response Due)) → length (first_taken d (take n rs)) ≤ all rs
+first_few : (d : Decision) (n : ℕ) (rs : List (Response Duty)) → length (first_taken d (take n rs)) ≤ all rs
 first_few d zero rs = omega arith
 first_few d (suc n) [] = omega arith
-first_few d (suc n) (r ∷ rs) = one_or_few (same_decision d r.decision) r.duties (first_taken d (take n rs)) (all rs) (first_few d n rs)
+first_few d (suc n) (r ∷ rs) =
+    let h = one_or_few (same_decision d r.decision) r.duties (first_taken d (take n rs)) (all rs) (first_few d n rs) in
+    let e = sum_by-cons (λ r. length r.duties) r rs in
+    omega (arith, h, e)
 
-duties_few : (w : Wording) (d : Decision) (n : ℕ) (rs : List (Response Due)) → length (duties_for w d (take n rs)) ≤ all rs
+duties_few : (w : Wording) (d : Decision) (n : ℕ) (rs : List (Response Duty)) → length (duties_for w d (take n rs)) ≤ all rs
 duties_few w d n rs = by w.joins
   where
     by : (b : Bool) → length (cond b (joined d (take n rs)) (first_taken d (take n rs))) ≤ all rs
@@ -116,7 +119,7 @@ duties_few w d n rs = by w.joins
     by false = first_few d n rs
 
 -- a set's response has no more duties than all children
-combined-few : (w : Wording) (s : Strategy) (r : Response Due) (rs : List (Response Due)) → length (combined w s r rs).duties ≤ all (r ∷ rs)
+combined-few : (w : Wording) (s : Strategy) (r : Response Duty) (rs : List (Response Duty)) → length (combined w s r rs).duties ≤ all (r ∷ rs)
 unfolding combined
 combined-few w s r rs = duties_few w (combined w s r rs).decision (visits w s (r.decision ∷ []) (map decision_of rs)) (r ∷ rs)
 
@@ -127,7 +130,7 @@ mutual
   policy_few : (m : Map) (p : Policy) → length (respond m p).duties ≤ heavy p
   policy_few m (rule e t ds) = target_few (value_of m t) _ _ (appended-few m ds (bare (decision_for e)) _ (omega arith))
   policy_few m (set c t is p d) =
-      let r : Response Due = combined (wording_of c.algorithm) c.strategy (first m is) (rest m is) in
+      let r : Response Duty = combined (wording_of c.algorithm) c.strategy (first m is) (rest m is) in
       let h = combined-few (wording_of c.algorithm) c.strategy (first m is) (rest m is) in
       let k = items_few m is in
       target_few (value_of m t) _ _ (closed-few m p d r.decision r _ (omega (arith, h, k)))
@@ -138,7 +141,7 @@ mutual
   items_few m (more is p) =
       let h = items_few m is in
       let k = policy_few m p in
-      let e = all_push (rest m is) (respond m p) in
+      let e = sum_by_push (λ r. length r.duties) (first m is ∷ rest m is) (respond m p) in
       omega (arith, h, k, e)
 
 -- a part weighs at most one more than the parts that its line names
@@ -201,12 +204,7 @@ line_weighs leaf n ps (l.Set c t i p d) =
 -- all parts together
 
 abbrev total : List Part → ℕ
-total [] = 0
-total (p ∷ ps) = weight p + total ps
-
-total-push : (ps : List Part) (p : Part) → total (ps ++ p ∷ []) ≡ total ps + weight p
-total-push [] p = omega arith
-total-push (q ∷ ps) p = let h = total-push ps p in omega (arith, h)
+total ps = sum_by weight ps
 
 -- all parts from line k on, that of line i as often as `often i`
 abbrev counted : (ℕ → ℕ) → ℕ → List Part → ℕ
@@ -237,7 +235,8 @@ counted-once f k [] h = omega arith
 counted-once f k (p ∷ ps) h =
     let a = at_most_once (f k) (weight p) (h k (omega arith) (omega arith)) in
     let b = counted-once f (k + 1) ps (λ i lo hi. h i (omega arith) (omega arith)) in
-    omega (arith, a, b)
+    let e = sum_by-cons weight p ps in
+    omega (arith, a, b, e)
 
 -- a reference counts the part that it names
 counted-one : (ps : List Part) (k n j : ℕ) → n ≡ k + j → weight (part_at ps k) ≤ counted (λ i. cond (eqb n i) 1 0) j ps
@@ -278,7 +277,7 @@ part_weighs leaf ps often (x ∷ ls) b o n lo hi =
     let is = ap weight (kept leaf (no_part ∷ (ps ++ p ∷ [])) ls n (omega (arith, long, q)) ∙ get_or_push (no_part ∷ ps) p no_part n (omega (arith, q))) in
     omega (arith, within, single, is, q))
     (λ q.
-    let all-now = total-push (no_part ∷ ps) p in
+    let all-now = sum_by_push weight (no_part ∷ ps) p in
     let no_less = counted-push now 0 (no_part ∷ ps) p in
     part_weighs leaf (ps ++ p ∷ []) now ls (omega (arith, long, within, all-now, no_less))
     (λ k up down. let h = o k up (omega (arith, long, down)) in omega (arith, h)) n (omega (arith, long, lo, q)) (omega (arith, long, hi)))

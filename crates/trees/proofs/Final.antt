@@ -1,17 +1,17 @@
 -- A final response and one more child.
-use Rattle.std.proofs.Common.{◌≡◌, Bool, true, false, cond, List, [], ◌∷◌, ◌++◌, map, sym, refl, ap, ◌∙◌, subst, append_assoc}
+use Rattle.std.proofs.Common.{◌≡◌, Bool, true, false, cond, List, [], ◌∷◌, ◌++◌, map, sym, refl, ap, ◌∙◌, subst}
 use Rattle.std.proofs.lemmas.List.{append-nil, map-append}
+use Rattle.std.proofs.lemmas.Grind.{flat_map-append}
 use Rattle.combining.specs.declared.decision.Decision.{Decision}
 use Rattle.combining.specs.Decisions.{same_decision}
 use Rattle.combining.specs.Combined.{Response, decision_of, taken, joined, first_taken, duties_for}
-use Rattle.trees.specs.Duties.{Due}
+use Rattle.trees.specs.declared.duty.Duty.{Duty}
 use Rattle.trees.specs.Final.{Begins, FinalResponsesStay}
 
-joined-begins : (d : Decision) (rs : List (Response Due)) (q : Response Due) → joined d (rs ++ q ∷ []) ≡ joined d rs ++ taken d q
-joined-begins d [] q = append-nil (taken d q)
-joined-begins d (r ∷ rs) q = ap (λ xs. taken d r ++ xs) (joined-begins d rs q) ∙ sym (append_assoc (taken d r) (joined d rs) (taken d q))
+joined-begins : (d : Decision) (rs : List (Response Duty)) (q : Response Duty) → joined d (rs ++ q ∷ []) ≡ joined d rs ++ taken d q
+joined-begins d rs q = flat_map-append (taken d) rs (q ∷ []) ∙ ap (λ xs. joined d rs ++ xs) (append-nil (taken d q))
 
-first_begins : (d : Decision) (rs : List (Response Due)) (q : Response Due) → Begins (first_taken d rs) (first_taken d (rs ++ q ∷ []))
+first_begins : (d : Decision) (rs : List (Response Duty)) (q : Response Duty) → Begins (first_taken d rs) (first_taken d (rs ++ q ∷ []))
 first_begins d [] q = (first_taken d (q ∷ []), refl)
 first_begins d (r ∷ rs) q = by (same_decision d r.decision) (first_begins d rs q)
   where
@@ -19,7 +19,7 @@ first_begins d (r ∷ rs) q = by (same_decision d r.decision) (first_begins d rs
     by true h = ([], sym (append-nil r.duties))
     by false h = h
 
-duties_begin : (b : Bool) (d : Decision) (rs : List (Response Due)) (q : Response Due) → Begins (cond b (joined d rs) (first_taken d rs)) (cond b (joined d (rs ++ q ∷ [])) (first_taken d (rs ++ q ∷ [])))
+duties_begin : (b : Bool) (d : Decision) (rs : List (Response Duty)) (q : Response Duty) → Begins (cond b (joined d rs) (first_taken d rs)) (cond b (joined d (rs ++ q ∷ [])) (first_taken d (rs ++ q ∷ [])))
 duties_begin true d rs q = (taken d q, joined-begins d rs q)
 duties_begin false d rs q = first_begins d rs q
 

@@ -1,6 +1,7 @@
 -- The part of a line, by the parts of the lines that it names.
-use Rattle.std.proofs.Common.{◌≡◌, ℕ, zero, suc, ◌+◌, ◌-◌, ◌<◌, ◌≤◌, Bool, true, false, ◌&&◌, List, [], ◌∷◌, ◌++◌, length, get_or, Some, None, Option, sym, refl, ap, ◌∙◌, subst, add-zero, arith, length-append}
+use Rattle.std.proofs.Common.{◌≡◌, ℕ, zero, suc, ◌+◌, ◌-◌, ◌<◌, ◌≤◌, true, false, List, [], ◌∷◌, ◌++◌, length, get_or, Some, None, Option, sym, refl, ap, ◌∙◌, subst, add-zero, arith, length-append}
 use Rattle.std.proofs.lemmas.List.{get_or_append_left, get_or_push, length_push}
+use Rattle.std.specs.Cmp.{first_so, second_so}
 use Rattle.std.proofs.lemmas.Bool.Decides.{nat_tests}
 use Rattle.policy.specs.declared.line.Line.{Line}
 use Rattle.policy.specs.declared.line.Line.TheVariants as l
@@ -15,21 +16,13 @@ abbrev pub below : ℕ → List Reference → Type 0
 below n [] = Unit {0}
 below n (r ∷ rs) = (0 < r.line) × (r.line < n) × below n rs
 
-and_left : (a b : Bool) → (a && b) ≡ true → a ≡ true
-and_left true b h = refl
-and_left false b h = h
-
-and_right : (a b : Bool) → (a && b) ≡ true → b ≡ true
-and_right true b h = h
-and_right false b h = grind (arith, nat_tests)
-
 pub sound_below : (ls : List Line) (n : ℕ) (rs : List Reference) → all_sound ls n rs ≡ true → below n rs
 sound_below ls n [] h = tt
 sound_below ls n (r ∷ rs) h =
-    let s : is_sound ls n r ≡ true = and_left (is_sound ls n r) (all_sound ls n rs) h in
+    let s : is_sound ls n r ≡ true = first_so (is_sound ls n r) (all_sound ls n rs) h in
     let lo : 0 < r.line = grind (arith, nat_tests) in
     let hi : r.line < n = grind (arith, nat_tests) in
-    (lo, hi, sound_below ls n rs (and_right (is_sound ls n r) (all_sound ls n rs) h))
+    (lo, hi, sound_below ls n rs (second_so (is_sound ls n r) (all_sound ls n rs) h))
 
 pub below-append : (n : ℕ) (rs ss : List Reference) → below n (rs ++ ss) → below n rs × below n ss
 below-append n [] ss h = (tt, h)

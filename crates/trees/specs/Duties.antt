@@ -1,6 +1,7 @@
 -- Duties: what is to be carried out with an answer.
 use Rattle.std.specs.Prelude.{ℕ, Bool, true, false, ◌&&◌, List, [], ◌∷◌, ◌++◌}
-use Rattle.values.specs.Values.{Val, missing, error, boolean, number, text, numbers, texts, val_of}
+use Rattle.values.specs.declared.value.Value.{Value}
+use Rattle.values.specs.declared.value.Value.TheVariants.{Missing as missing, Error as error, Bool as boolean, Number as number, Text as text, Numbers as numbers, Texts as texts}
 use Rattle.policy.specs.declared.line.Force.{Force}
 use Rattle.trees.specs.declared.duty.Duty.{Duty}
 use Rattle.trees.specs.Expressions.{Expression, Map, value_of}
@@ -10,17 +11,8 @@ pub data Duties : Type 0 where
   none : Duties
   then : Duties → Force → ℕ → Expression → Duties
 
--- a duty of a response: its argument has been evaluated
-pub record Due : Type 0 where
-  pub force : Force
-  pub action : ℕ
-  pub argument : Val
-
-abbrev pub due_of : Duty → Due
-due_of d = record { force = d.force; action = d.action; argument = val_of d.argument }
-
 -- a boolean, a number or a text fulfils a duty
-abbrev pub fulfils : Val → Bool
+abbrev pub fulfils : Value → Bool
 fulfils missing = false
 fulfils error = false
 fulfils (boolean b) = true
@@ -33,6 +25,7 @@ abbrev pub all_fulfilled : Map → Duties → Bool
 all_fulfilled m none = true
 all_fulfilled m (then ds force action e) = all_fulfilled m ds && fulfils (value_of m e)
 
-abbrev pub dues_of : Map → Duties → List Due
+-- the duties with their arguments evaluated
+abbrev pub dues_of : Map → Duties → List Duty
 dues_of m none = []
 dues_of m (then ds force action e) = dues_of m ds ++ record { force = force; action = action; argument = value_of m e } ∷ []

@@ -1,7 +1,8 @@
 -- The worked examples.
 use Rattle.std.specs.Prelude.{ℕ, false, cond, List, [], ◌∷◌, ◌++◌, pos, negsuc, Ok, Err, codes, Result}
 use Rattle.std.specs.Str.{bytes_eq}
-use Rattle.values.specs.Values.{Val, missing, error, boolean, number, text, val_of}
+use Rattle.values.specs.declared.value.Value.{Value}
+use Rattle.values.specs.declared.value.Value.TheVariants.{Missing as missing, Error as error, Bool as boolean, Number as number, Text as text}
 use Rattle.spelling.specs.declared.algorithm.Algorithm.{Algorithm}
 use Rattle.spelling.specs.declared.algorithm.Algorithm.TheVariants.{PermitOverrides, OneApplicable, WeakConsensus, StrongConsensus}
 use Rattle.policy.specs.declared.line.Line.{Line}
@@ -19,12 +20,12 @@ use Rattle.trees.specs.Parts.{policy_of}
 
 -- what an operator gives on two values, an algorithm on its children's decisions, and a policy file over a map
 pub data Question : Type 0 where
-  operation : Operator → Val → Val → Question
+  operation : Operator → Value → Value → Question
   combination : Algorithm → List Decision → Question
   response : List ℕ → Map → Question
 
 pub data Answer : Type 0 where
-  value : Val → Answer
+  value : Value → Answer
   decision : Decision → Answer
   refused : Answer
 
@@ -39,7 +40,7 @@ answer_to (combination a ds) = decision (decision_by a ds)
 answer_to (response file m) = decided (check_of file) m
 
 abbrev pub answer_of : Outcome → Answer
-answer_of (outcome.Value v) = value (val_of v)
+answer_of (outcome.Value v) = value v
 answer_of (outcome.Decision d) = decision d
 
 -- each line with its line feed

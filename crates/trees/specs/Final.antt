@@ -2,14 +2,14 @@
 use Rattle.std.specs.Prelude.{◌≡◌, true, List, [], ◌∷◌, ◌++◌}
 use Rattle.combining.specs.Wording.{Wording, FinalStays}
 use Rattle.combining.specs.Combined.{Response, answer_on}
-use Rattle.trees.specs.Duties.{Due}
+use Rattle.trees.specs.declared.duty.Duty.{Duty}
 
 -- the second list begins with the first
 abbrev pub Begins : {A : Type 0} → List A → List A → Type 0
 Begins {A} xs ys = (zs : List A) × (ys ≡ xs ++ zs)
 
 -- the response s follows the final response r
-pub record StaysFinal (w : Wording) (r s : Response Due) : Type 0 where
+pub record StaysFinal (w : Wording) (r s : Response Duty) : Type 0 where
   pub final : w.is_final s.decision ≡ true
   pub decision : s.decision ≡ r.decision
   pub duties : Begins r.duties s.duties
@@ -17,4 +17,4 @@ pub record StaysFinal (w : Wording) (r s : Response Due) : Type 0 where
 -- after a final response any further child gives a final one, with the same decision, its duties beginning with the earlier ones;
 -- this holds of every algorithm whose final decisions stay
 abbrev pub FinalResponsesStay : Type 0
-FinalResponsesStay = (w : Wording) → FinalStays w → (rs : List (Response Due)) (q : Response Due) → w.is_final (answer_on w rs).decision ≡ true → StaysFinal w (answer_on w rs) (answer_on w (rs ++ q ∷ []))
+FinalResponsesStay = (w : Wording) → FinalStays w → (rs : List (Response Duty)) (q : Response Duty) → w.is_final (answer_on w rs).decision ≡ true → StaysFinal w (answer_on w rs) (answer_on w (rs ++ q ∷ []))

@@ -1,7 +1,6 @@
 -- The tree that the lines of a policy file spell.
 use Rattle.std.specs.Prelude.{ℕ, List, [], ◌∷◌, ◌++◌, length, Some, None, Option, slice_index_or}
-use Rattle.values.specs.Short.{name_bytes, text_bytes}
-use Rattle.values.specs.Values.{error, boolean, number, text}
+use Rattle.values.specs.declared.value.Value.TheVariants.{Error as error, Bool as boolean, Number as number, Text as text}
 use Rattle.policy.specs.declared.line.Effect.TheVariants as effect
 use Rattle.policy.specs.declared.line.Line.{Line}
 use Rattle.policy.specs.declared.line.Line.TheVariants as l
@@ -66,9 +65,9 @@ items_with ps (Some n) p = more (as_items (part_at ps n)) p
 -- the part of line n, which names only lines with parts in ps; `leaf` is what stands for an attribute
 abbrev pub part_for : (ℕ → List ℕ → Expression) → ℕ → List Part → Line → Part
 part_for leaf n ps (l.Truth b) = expression (constant (boolean b))
-part_for leaf n ps (l.Attribute x) = expression (leaf n (name_bytes x))
+part_for leaf n ps (l.Attribute x) = expression (leaf n x)
 part_for leaf n ps (l.Number z) = expression (constant (number z))
-part_for leaf n ps (l.Text x) = expression (constant (text (text_bytes x)))
+part_for leaf n ps (l.Text x) = expression (constant (text x))
 part_for leaf n ps (l.Not j) = expression (negation (as_expression (part_at ps j)))
 part_for leaf n ps (l.Binary o j k) = expression (binary o (as_expression (part_at ps j)) (as_expression (part_at ps k)))
 part_for leaf n ps (l.Duty f a e d) = duties (then (duties_at ps d) f a (as_expression (part_at ps e)))

@@ -1,6 +1,6 @@
 -- Policies as trees, and the response of one over a map from names to values.
 use Rattle.std.specs.Prelude.{cond, ◌||◌, List, [], ◌∷◌, ◌++◌}
-use Rattle.values.specs.Values.{Val}
+use Rattle.values.specs.declared.value.Value.{Value}
 use Rattle.spelling.specs.declared.algorithm.Combining.{Combining}
 use Rattle.policy.specs.declared.line.Effect.{Effect}
 use Rattle.policy.specs.declared.line.Effect.TheVariants as effect
@@ -10,7 +10,8 @@ use Rattle.combining.specs.declared.decision.Decision.TheVariants.{Permit, Deny,
 use Rattle.combining.specs.Wording.{wording_of}
 use Rattle.combining.specs.Combined.{Response, combined}
 use Rattle.trees.specs.Expressions.{Expression, Map, value_of}
-use Rattle.trees.specs.Duties.{Duties, Due, all_fulfilled, dues_of}
+use Rattle.trees.specs.declared.duty.Duty.{Duty}
+use Rattle.trees.specs.Duties.{Duties, all_fulfilled, dues_of}
 
 -- a rule with its effect, target and duties; a set with its combining, target, items, and duties on permit and on deny
 mutual
@@ -28,41 +29,41 @@ decision_for effect.Permit = Permit
 decision_for effect.Deny = Deny
 
 -- a response without duties
-abbrev pub bare : Decision → Response Due
+abbrev pub bare : Decision → Response Duty
 bare d = record { decision = d; duties = [] }
 
 -- a policy whose target is false or missing is not-app, with any other target but true it is indet
-abbrev pub on_target : Val → Response Due → Response Due
+abbrev pub on_target : Value → Response Duty → Response Duty
 on_target v r = cond (is_true v) r (cond (is_false v || is_missing v) (bare NotApplicable) (bare Indeterminate))
 
 -- a policy's own duties come after the others; if one of them is not fulfilled the policy is indet
-abbrev pub appended : Map → Duties → Response Due → Response Due
+abbrev pub appended : Map → Duties → Response Duty → Response Duty
 appended m ds r = cond (all_fulfilled m ds) (record { decision = r.decision; duties = r.duties ++ dues_of m ds }) (bare Indeterminate)
 
 -- permit and deny get the duties on permit and on deny, not-app and indet carry none
-abbrev pub closed : Map → Duties → Duties → Decision → Response Due → Response Due
+abbrev pub closed : Map → Duties → Duties → Decision → Response Duty → Response Duty
 closed m onPermit onDeny Permit r = appended m onPermit r
 closed m onPermit onDeny Deny r = appended m onDeny r
 closed m onPermit onDeny NotApplicable r = bare NotApplicable
 closed m onPermit onDeny Indeterminate r = bare Indeterminate
 
-abbrev pub combined_by : Combining → Response Due → List (Response Due) → Response Due
+abbrev pub combined_by : Combining → Response Duty → List (Response Duty) → Response Duty
 combined_by c r rs = combined (wording_of c.algorithm) c.strategy r rs
 
 -- what a set makes of its items' responses
-abbrev pub closed_by : Map → Duties → Duties → Response Due → Response Due
+abbrev pub closed_by : Map → Duties → Duties → Response Duty → Response Duty
 closed_by m onPermit onDeny r = closed m onPermit onDeny r.decision r
 
 unfoldable mutual
-  pub respond : Map → Policy → Response Due
+  pub respond : Map → Policy → Response Duty
   respond m (rule e t ds) = on_target (value_of m t) (appended m ds (bare (decision_for e)))
   respond m (set c t is p d) = on_target (value_of m t) (closed_by m p d (combined_by c (first m is) (rest m is)))
 
   -- the first item's response, and those of the others
-  pub first : Map → Items → Response Due
+  pub first : Map → Items → Response Duty
   first m (one p) = respond m p
   first m (more is p) = first m is
 
-  pub rest : Map → Items → List (Response Due)
+  pub rest : Map → Items → List (Response Duty)
   rest m (one p) = []
   rest m (more is p) = rest m is ++ respond m p ∷ []

@@ -10,10 +10,7 @@ use std::rt::Files;
 
 // The bytes of a file; one that cannot be opened counts as empty.
 fn file_bytes(rt: &HostRuntime, path: &str) -> Vec<u8> {
-    match fs::read(rt, path) {
-        Ok(bytes) => bytes,
-        Err(_) => Vec::new(rt.alloc()),
-    }
+    fs::read(rt, path).unwrap_or_else(|_| Vec::new(rt.alloc()))
 }
 
 fn main(rt: HostRuntime) -> anyhow::Result<()> {

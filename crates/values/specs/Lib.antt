@@ -1,4 +1,4 @@
+pub mod Filled
 pub mod Options
 pub mod Short
 pub mod Sets
-pub mod Values

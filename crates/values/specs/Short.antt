@@ -1,23 +1,20 @@
-use Rattle.std.specs.Prelude.{ℕ, ◌-◌, cond, List, ◌++◌, length, take, replicate, Some, None, Option, nat_lt}
-use Rattle.values.specs.declared.short.Name.{Name}
-use Rattle.values.specs.declared.short.Text.{Text}
+use Rattle.std.specs.Prelude.{ℕ, cond, List, length, Some, None, Option, nat_lt}
 
--- xs in n places, the others 0
-abbrev pub padded : ℕ → List ℕ → List ℕ
-padded n xs = xs ++ replicate (n - length xs) 0
+-- a name is the list of its bytes, and so is a text
+abbrev pub Name : Type 0
+Name = List ℕ
 
--- the bytes that a name stands for
-abbrev pub name_bytes : Name → List ℕ
-name_bytes x = take x.len x.bytes
+abbrev pub Text : Type 0
+Text = List ℕ
 
--- the name with these bytes, of which there are at most 24
+-- xs, where there are at most n
+abbrev pub fitting : ℕ → List ℕ → Option (List ℕ)
+fitting n xs = cond (nat_lt n (length xs)) None (Some xs)
+
+-- a name has at most 24 bytes
 abbrev pub name_for : List ℕ → Option Name
-name_for xs = cond (nat_lt 24 (length xs)) None (Some (record { bytes = padded 24 xs; len = length xs }))
+name_for xs = fitting 24 xs
 
--- the bytes that a text stands for
-abbrev pub text_bytes : Text → List ℕ
-text_bytes x = take x.len x.bytes
-
--- the text with these bytes, of which there are at most 16
+-- a text has at most 16 bytes
 abbrev pub text_for : List ℕ → Option Text
-text_for xs = cond (nat_lt 16 (length xs)) None (Some (record { bytes = padded 16 xs; len = length xs }))
+text_for xs = fitting 16 xs

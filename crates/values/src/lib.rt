@@ -2,12 +2,10 @@
 
 #![tactic(auto)]
 
-pub mod number_set;
+pub mod few;
 pub mod short;
-pub mod text_set;
 pub mod value;
 
-pub use number_set::NumberSet;
-pub use short::{Name, Text};
-pub use text_set::TextSet;
+pub use few::{Few, NumberSet, TextSet};
+pub use short::{Name, Short, Text};
 pub use value::Value;

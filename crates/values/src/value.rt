@@ -1,8 +1,7 @@
 // A value, as a reading gives it or an expression takes it.
 
-use crate::number_set::NumberSet;
+use crate::few::{NumberSet, TextSet};
 use crate::short::Text;
-use crate::text_set::TextSet;
 
 #[derive(Clone, Copy)]
 pub enum Value {

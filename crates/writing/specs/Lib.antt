@@ -1,4 +1,3 @@
 pub mod Put
 pub mod Rows
-pub mod Words
 pub mod Written

@@ -1,11 +1,13 @@
-use Rattle.std.specs.Prelude.{ℕ, ◌+◌, length}
+-- A line by its fields.
+use Rattle.std.specs.Prelude.{ℕ, List, [], ◌∷◌, ◌++◌}
 use Rattle.spelling.specs.Cuts.{Six}
-use Rattle.writing.specs.Words.{shown}
-use Rattle.writing.specs.declared.row.Row.{Row}
+use Rattle.policy.specs.Spelt.{fields_for, row}
+use Rattle.policy.specs.declared.line.Line.{Line}
 
-abbrev pub seen_row : Row → Six
-seen_row r = record { kind = shown r.kind; a = shown r.a; b = shown r.b; c = shown r.c; d = shown r.d; e = shown r.e }
+-- the fields in order
+abbrev pub listed : Six → List (List ℕ)
+listed f = f.kind ∷ f.a ∷ f.b ∷ f.c ∷ f.d ∷ f.e ∷ []
 
--- the length of a row with its last byte
-abbrev pub row_length : Six → ℕ
-row_length f = length f.kind + length f.a + length f.b + (length f.c + length f.d + length f.e) + 6
+-- a line's bytes with its last one
+abbrev pub line_bytes : Line → List ℕ
+line_bytes l = row (fields_for l) ++ 10 ∷ []

@@ -1,149 +1,114 @@
 // The fields of a line as short words.
+// Not by Display: what `write!` wrote is known only where it succeeded, and no contract says that it does.
 
-ghost use Rattle.std.specs.Prelude.{◌≡◌, ◌+◌, ◌≤◌, ◌∷◌, ◌++◌, length, codes, decimal};
-ghost use Rattle.std.specs.Fmt.{signed_decimal};
-ghost use Rattle.values.specs.Short.{name_bytes, text_bytes};
+ghost use Rattle.std.specs.Prelude.{◌≡◌, ℕ, ◌≤◌, length, codes};
 ghost use Rattle.spelling.specs.Algorithms.{algorithm_word, strategy_word, combining_word};
-ghost use Rattle.policy.specs.Spelt.{optional};
-ghost use Rattle.writing.specs.Words.{shown};
+ghost use Rattle.policy.specs.Spelt.{truth_word, operator_word, force_word, effect_word, optional};
 
-use crate::put::{put, put_after};
-use policy::LineNumber;
+use crate::put::put;
+use itoa::{Buffer, Integer};
+use policy::{Effect, Force, LineNumber, Operator};
 use spelling::{Algorithm, Combining, Strategy};
-use values::{Name, Text};
+use values::Short;
 
-// At most 24 bytes: the first `len` places.
-#[derive(Clone, Copy)]
-pub(crate) struct Word {
-    bytes: [u8; 24],
-    len: usize,
-}
+// No field is longer than a name.
+pub(crate) type Word = Short<24>;
 
-impl Word {
-    pub(crate) fn as_bytes(&self) -> &[u8]
-        ensures value { result.now ≡ shown self.now }
-        ensures small { length result.now ≤ 24 }
-    {
-        if self.len > 24 {
-            return &self.bytes;
-        }
-        &self.bytes[0..self.len]
-    }
-}
-
-pub(crate) fn spell(s: &[u8]) -> Word
+pub(crate) fn word(s: &[u8]) -> Word
     requires { length s.now ≤ 24 }
-    ensures { shown result ≡ s.now }
+    ensures { result ≡ s.now }
 {
-    let mut bytes = [0u8; 24];
-    let len = put(&mut bytes, 0, s);
-    Word { bytes, len }
+    Word::new(s).unwrap()
 }
 
-// An unused field.
-pub(crate) fn dash() -> Word
-    ensures { shown result ≡ codes "-" }
+// A number in base ten.
+pub(crate) fn decimal_word<I: Integer>(n: I) -> Word
+    requires { I.MAX_STR_LEN ≤ 24 }
+    ensures { result ≡ I.text n }
 {
-    spell(b"-")
+    let mut buffer = Buffer::new();
+    word(buffer.format(n).as_bytes())
 }
 
-pub(crate) fn name_word(x: Name) -> Word
-    ensures { shown result ≡ name_bytes x }
-{
-    spell(x.as_bytes())
-}
-
-pub(crate) fn text_word(x: Text) -> Word
-    ensures { shown result ≡ text_bytes x }
-{
-    spell(x.as_bytes())
-}
-
-// A number without sign, in base ten.
-pub(crate) fn natural_word(n: usize) -> Word
-    ensures value { shown result ≡ decimal n }
-    ensures len { result.len ≡ length (decimal n) }
-    ensures small { result.len ≤ 20 }
-{
-    if n < 10 {
-        let mut bytes = [0u8; 24];
-        bytes[0] = b'0' + n as u8;
-        return Word { bytes, len: 1 };
-    }
-    let mut word = natural_word(n / 10);
-    word.bytes[word.len] = b'0' + (n % 10) as u8;
-    word.len += 1;
-    word
-}
-
-// The word with `-` in front.
-fn minus(word: &Word) -> Word
-    requires { word.now.len ≤ 23 }
-    ensures { shown result ≡ 45 ∷ shown word.now }
-{
-    let mut bytes = [0u8; 24];
-    let len = put_after(&mut bytes, 0, b'-', word.as_bytes());
-    Word { bytes, len }
-}
-
-pub(crate) fn number_word(z: i32) -> Word
-    ensures { shown result ≡ signed_decimal z }
-{
-    if z < 0 {
-        minus(&natural_word(z.unsigned_abs() as usize))
-    } else {
-        natural_word(z as usize)
-    }
-}
-
-pub(crate) fn line_word(n: LineNumber) -> Word
-    ensures { shown result ≡ decimal n }
-{
-    natural_word(n as usize)
-}
-
+// A line's number, or an unused field.
 pub(crate) fn optional_word(n: Option<LineNumber>) -> Word
-    ensures { shown result ≡ optional n }
+    ensures { result ≡ optional n }
 {
-    match n {
-        None => dash(),
-        Some(n) => line_word(n),
-    }
+    n.map_or(word(b"-"), decimal_word)
 }
 
-fn algorithm_word(algorithm: Algorithm) -> Word
-    ensures value { shown result ≡ algorithm_word algorithm }
-    ensures short { length (algorithm_word algorithm) ≤ 10 }
+pub(crate) fn truth_word(value: bool) -> Word
+    ensures { result ≡ truth_word value }
+{
+    word(if value { b"true" } else { b"false" })
+}
+
+pub(crate) fn operator_word(operator: Operator) -> Word
+    ensures { result ≡ operator_word operator }
+{
+    word(match operator {
+        Operator::And => b"and",
+        Operator::Or => b"or",
+        Operator::Equal => b"equal",
+        Operator::In => b"in",
+        Operator::Greater => b"greater",
+        Operator::Add => b"add",
+        Operator::Sub => b"sub",
+        Operator::Mul => b"mul",
+        Operator::Div => b"div",
+    })
+}
+
+pub(crate) fn force_word(force: Force) -> Word
+    ensures { result ≡ force_word force }
+{
+    word(match force {
+        Force::Must => b"must",
+        Force::May => b"may",
+    })
+}
+
+pub(crate) fn effect_word(effect: Effect) -> Word
+    ensures { result ≡ effect_word effect }
+{
+    word(match effect {
+        Effect::Permit => b"permit",
+        Effect::Deny => b"deny",
+    })
+}
+
+fn algorithm_word(algorithm: Algorithm) -> &'static [u8]
+    ensures value { result.now ≡ algorithm_word algorithm }
+    ensures short { length result.now ≤ 10 }
 {
     match algorithm {
-        Algorithm::PermitOverrides => spell(b"p-over"),
-        Algorithm::DenyOverrides => spell(b"d-over"),
-        Algorithm::DenyUnlessPermit => spell(b"d-unless-p"),
-        Algorithm::PermitUnlessDeny => spell(b"p-unless-d"),
-        Algorithm::FirstApplicable => spell(b"first-app"),
-        Algorithm::OneApplicable => spell(b"one-app"),
-        Algorithm::WeakConsensus => spell(b"weak-con"),
-        Algorithm::StrongConsensus => spell(b"strong-con"),
+        Algorithm::PermitOverrides => b"p-over",
+        Algorithm::DenyOverrides => b"d-over",
+        Algorithm::DenyUnlessPermit => b"d-unless-p",
+        Algorithm::PermitUnlessDeny => b"p-unless-d",
+        Algorithm::FirstApplicable => b"first-app",
+        Algorithm::OneApplicable => b"one-app",
+        Algorithm::WeakConsensus => b"weak-con",
+        Algorithm::StrongConsensus => b"strong-con",
     }
 }
 
-fn strategy_word(strategy: Strategy) -> Word
-    ensures value { shown result ≡ strategy_word strategy }
-    ensures short { length (strategy_word strategy) ≤ 6 }
+fn strategy_word(strategy: Strategy) -> &'static [u8]
+    ensures value { result.now ≡ strategy_word strategy }
+    ensures short { length result.now ≤ 6 }
 {
     match strategy {
-        Strategy::All => spell(b"all"),
-        Strategy::Greedy => spell(b"greedy"),
+        Strategy::All => b"all",
+        Strategy::Greedy => b"greedy",
     }
 }
 
 pub(crate) fn combining_word(c: Combining) -> Word
-    ensures { shown result ≡ combining_word c }
+    ensures { result ≡ combining_word c }
 {
-    let algorithm = algorithm_word(c.algorithm);
-    let strategy = strategy_word(c.strategy);
     let mut bytes = [0u8; 24];
-    let at = put(&mut bytes, 0, algorithm.as_bytes());
-    let len = put_after(&mut bytes, at, b'.', strategy.as_bytes());
-    Word { bytes, len }
+    let name = put(&mut bytes, 0, algorithm_word(c.algorithm));
+    let point = put(&mut bytes, name, b".");
+    let end = put(&mut bytes, point, strategy_word(c.strategy));
+    word(&bytes[..end])
 }

@@ -1,6 +1,6 @@
 // Writing a policy back.
 
-ghost use Rattle.std.specs.Prelude.{◌≡◌, ℕ, ◌+◌, ◌<◌, ◌≤◌, List, length, Ok, nat_le};
+ghost use Rattle.std.specs.Prelude.{◌≡◌, ℕ, ◌+◌, ◌≤◌, List, length, Ok};
 ghost use Rattle.policy.specs.Accepted.{lines_of};
 ghost use Rattle.policy.specs.Check.{check_of};
 ghost use Rattle.policy.specs.Spelt.{rows, spelt};
@@ -8,36 +8,29 @@ ghost use Rattle.writing.specs.Put.{Puts};
 ghost use Rattle.writing.specs.Written.{Written};
 
 use crate::put::put;
-use crate::row::row_of;
+use crate::row::{line_length, put_line};
 use policy::{Line, Policy};
 use refusals::{Cause, Rejection};
 
-// Whether the file of these lines has at most `room` bytes.
-fn fits(lines: &[Line], room: usize) -> bool
-    requires { room < 9223372036854775808 }
-    ensures { result ≡ nat_le (length (spelt lines.now)) room }
+const HEADER: &[u8] = b"kind a b c d e\n";
+
+// The number of bytes of these lines.
+fn lines_length(lines: &[Line]) -> usize
+    requires { length lines.now ≤ 256 }
+    ensures value { result ≡ length (rows lines.now) }
+    ensures small { result ≤ 38400 }
 {
-    let mut n: usize = 15;
-    if n > room {
-        return false;
-    }
-    for line in lines {
-        let size = row_of(line).len();
-        if size > room - n {
-            return false;
-        }
-        n += size;
-    }
-    true
+    lines.iter().map(line_length).sum()
 }
 
-fn put_rows(lines: &[Line], out: &mut [u8], start: usize) -> usize
+// Puts the lines from place `start` on, and answers where they end.
+fn put_lines(lines: &[Line], out: &mut [u8], start: usize) -> usize
     requires { start + length (rows lines.now) ≤ length out.old }
     ensures { Puts out.old start (rows lines.now) out.new result }
 {
     let mut at = start;
     for line in lines {
-        at = row_of(line).put(out, at);
+        at = put_line(line, out, at);
     }
     at
 }
@@ -48,13 +41,9 @@ pub fn write_back(policy: &Policy, out: &mut [u8]) -> Result<usize, Rejection>
     ensures file { (f : List ℕ) → check_of f ≡ Ok (lines_of policy.now) → Written f out.old out.new result }
 {
     let lines = policy.lines();
-    if !fits(lines, out.len()) {
-        return Err(Rejection {
-            cause: Cause::TooSmall,
-            line: 0,
-            field: 0,
-        });
+    if HEADER.len() + lines_length(lines) > out.len() {
+        return Err(Rejection::of_file(Cause::TooSmall));
     }
-    let at = put(out, 0, b"kind a b c d e\n");
-    Ok(put_rows(lines, out, at))
+    let at = put(out, 0, HEADER);
+    Ok(put_lines(lines, out, at))
 }

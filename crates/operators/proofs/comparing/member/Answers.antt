@@ -1,10 +1,17 @@
 use Rattle.std.proofs.Common.{ap, ◌∙◌}
-use Rattle.values.specs.Values.{boolean}
+use Rattle.std.specs.Ordering.{int_eq}
+use Rattle.std.specs.Str.{bytes_eq}
+use Rattle.values.specs.declared.value.Value.TheVariants.{Bool}
 use Rattle.operators.specs.Operators.{among, same_number}
-use Rattle.operators.proofs.Among.{contained}
+use Rattle.operators.proofs.Among.{contained, same_number-int_eq, eq_text, same_text-turned}
 use Rattle.operators.proofs.comparing.member.Goals as goal
 
 pub returns-in-Number-Numbers : goal.returns-in-Number-Numbers
 returns-in-Number-Numbers c =
-    let x = c.in-Number-Numbers.x in
-    rw (c.in-Number-Numbers.is-0, c.in-Number-Numbers.is-1) (ap boolean (c.contains.ensures.value ∙ contained x c.as_slice.result.now ∙ ap (among same_number x) c.as_slice.ensures))
+    let t = c.in-Number-Numbers in
+    rw (t.is-0, t.is-1) (ap Bool (c.contains.ensures.value ∙ contained int_eq same_number same_number-int_eq t.x c.as_slice.result.now ∙ ap (among same_number t.x) c.as_slice.ensures))
+
+pub returns-in-Text-Texts : goal.returns-in-Text-Texts
+returns-in-Text-Texts c =
+    let t = c.in-Text-Texts in
+    rw (t.is-0, t.is-1) (ap Bool (c.contains-in-Text-Texts.ensures.value ∙ contained eq_text bytes_eq same_text-turned t.x c.as_slice-in-Text-Texts.result.now ∙ ap (among bytes_eq t.x) c.as_slice-in-Text-Texts.ensures))

@@ -8,8 +8,8 @@ use Rattle.spelling.proofs.number.digits.Goals as goal
 pub returns-then-not-is_digit : goal.returns-then-not-is_digit
 returns-then-not-is_digit c = let e = at_drop_more (digits_after c.loop-b.n) c.args.s.now c.loop-b.b-index 0 (search rules) in grind (arith, nat_tests)
 
-pub returns-then-n-limit : goal.returns-then-n-limit
-returns-then-n-limit c = let e = at_drop_more (digits_after c.loop-b.n) c.args.s.now c.loop-b.b-index 0 (search rules) in
+pub returns-then-longer-from : goal.returns-then-longer-from
+returns-then-longer-from c = let e = at_drop_more (digits_after c.loop-b.n) c.args.s.now c.loop-b.b-index 0 (search rules) in
     let d = get_or c.args.s.now c.loop-b.b-index 0 in
     let o = over-limit c.args.limit (c.loop-b.n * 10 + (d - 48)) (drop (c.loop-b.b-index + 1) c.args.s.now) (omega arith) in
     grind (arith, nat_tests)

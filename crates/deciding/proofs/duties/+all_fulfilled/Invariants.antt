@@ -1,5 +1,0 @@
-use Rattle.deciding.specs.Kept.{height}
-use Rattle.deciding.proofs.duties.+all_fulfilled.Given as goal
-
-abbrev pub decreases-all_fulfilled : goal.decreases-all_fulfilled
-decreases-all_fulfilled l = height l.last

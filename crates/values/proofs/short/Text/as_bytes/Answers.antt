@@ -1,6 +1,0 @@
-use Rattle.std.proofs.Common.{sym, rules}
-use Rattle.std.proofs.lemmas.List.{take_all}
-use Rattle.values.proofs.short.Text.as_bytes.Goals as goal
-
-pub returns-then-self-all : goal.returns-then-self-all
-returns-then-self-all c = record { value = sym (take_all c.args.self.now.len c.args.self.now.bytes (search rules)); bound = search rules }

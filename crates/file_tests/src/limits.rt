@@ -1,7 +1,7 @@
 // Policies of the most lines, and readings of the most names.
 
 use crate::built::{chain, names, wide_row};
-use crate::case::{Counts, POLICY, READINGS, Refusal, check_accepted, check_refused};
+use crate::case::{Case, Counts, POLICY, READINGS, Refusal, check};
 use std::alloc::Global;
 use std::process::Abort;
 use std::test::Fail;
@@ -20,49 +20,49 @@ const ENDINGS: [Chain; 8] = [
         first: "true - - - - -",
         count: 255,
         last: "permit 255 - - - -",
-        refusal: Refusal(2, 1, 256, 0),
+        expected: Err(Refusal(2, 1, 256, 0)),
     },
     Chain {
         first: "true - - - - -",
         count: 255,
         last: "allow 255 - - - -\n",
-        refusal: Refusal(3, 1, 256, 1),
+        expected: Err(Refusal(3, 1, 256, 1)),
     },
     Chain {
         first: "true - - - - -",
         count: 255,
         last: "set one-app.first 255 1 - -\n",
-        refusal: Refusal(3, 1, 256, 2),
+        expected: Err(Refusal(3, 1, 256, 2)),
     },
     Chain {
         first: "true - - - - -",
         count: 255,
         last: "permit 255 - - - 0\n",
-        refusal: Refusal(4, 1, 256, 6),
+        expected: Err(Refusal(4, 1, 256, 6)),
     },
     Chain {
         first: "true - - - - -",
         count: 255,
         last: "permit 256 - - - -\n",
-        refusal: Refusal(5, 2, 256, 2),
+        expected: Err(Refusal(5, 2, 256, 2)),
     },
     Chain {
         first: "true - - - - -",
         count: 255,
         last: "permit 254 - - - -\n",
-        refusal: Refusal(6, 2, 256, 2),
+        expected: Err(Refusal(6, 2, 256, 2)),
     },
     Chain {
         first: "true - - - - -",
         count: 255,
         last: "not 255 - - - -\n",
-        refusal: Refusal(6, 2, 256, 0),
+        expected: Err(Refusal(6, 2, 256, 0)),
     },
     Chain {
         first: "true - - - - -",
         count: 255,
         last: "true - - - - -\n",
-        refusal: Refusal(6, 2, 255, 0),
+        expected: Err(Refusal(6, 2, 255, 0)),
     },
 ];
 
@@ -73,37 +73,37 @@ const LINES_TOO_MANY: [Chain; 6] = [
         first: "true - - - - -",
         count: 256,
         last: "permit 256 - - - -\n",
-        refusal: Refusal(7, 2, 257, 0),
+        expected: Err(Refusal(7, 2, 257, 0)),
     },
     Chain {
         first: "true - - - - -",
         count: 255,
         last: "permit 255 - - - -\nx",
-        refusal: Refusal(7, 2, 257, 0),
+        expected: Err(Refusal(7, 2, 257, 0)),
     },
     Chain {
         first: "true - - - - -",
         count: 255,
         last: "permit 255 - - - -\n\n",
-        refusal: Refusal(7, 2, 257, 0),
+        expected: Err(Refusal(7, 2, 257, 0)),
     },
     Chain {
         first: "true - - - - -",
         count: 255,
         last: "true - - - - -\npermit 256 - - - -\n",
-        refusal: Refusal(7, 2, 257, 0),
+        expected: Err(Refusal(7, 2, 257, 0)),
     },
     Chain {
         first: "num 01 - - - -",
         count: 256,
         last: "permit 256 - - - -\n",
-        refusal: Refusal(4, 1, 1, 2),
+        expected: Err(Refusal(4, 1, 1, 2)),
     },
     Chain {
         first: "true - - - - -",
         count: 255,
         last: "allow 255 - - - -\nx",
-        refusal: Refusal(3, 1, 256, 1),
+        expected: Err(Refusal(3, 1, 256, 1)),
     },
 ];
 
@@ -119,32 +119,32 @@ const NAMES: [Wide; 6] = [
     Wide {
         count: 63,
         rest: "n1",
-        refusal: Refusal(8, 1, 0, 0),
+        expected: Err(Refusal(8, 1, 0, 0)),
     },
     Wide {
         count: 64,
         rest: "n65\n",
-        refusal: Refusal(8, 1, 0, 0),
+        expected: Err(Refusal(8, 1, 0, 0)),
     },
     Wide {
         count: 64,
         rest: "n1\n",
-        refusal: Refusal(8, 1, 0, 0),
+        expected: Err(Refusal(8, 1, 0, 0)),
     },
     Wide {
         count: 63,
         rest: "n1\n",
-        refusal: Refusal(8, 1, 0, 64),
+        expected: Err(Refusal(8, 1, 0, 64)),
     },
     Wide {
         count: 63,
         rest: "n63\n",
-        refusal: Refusal(8, 1, 0, 64),
+        expected: Err(Refusal(8, 1, 0, 64)),
     },
     Wide {
         count: 63,
         rest: "N64\n",
-        refusal: Refusal(8, 1, 0, 64),
+        expected: Err(Refusal(8, 1, 0, 64)),
     },
 ];
 
@@ -153,34 +153,43 @@ const CELLS: [Wide; 5] = [
     Wide {
         count: 62,
         rest: "-\n",
-        refusal: Refusal(9, 1, 1, 0),
+        expected: Err(Refusal(9, 1, 1, 0)),
     },
     Wide {
         count: 64,
         rest: "-\n",
-        refusal: Refusal(9, 1, 1, 0),
+        expected: Err(Refusal(9, 1, 1, 0)),
     },
     Wide {
         count: 64,
         rest: "05\n",
-        refusal: Refusal(9, 1, 1, 0),
+        expected: Err(Refusal(9, 1, 1, 0)),
     },
     Wide {
         count: 63,
         rest: "-",
-        refusal: Refusal(9, 1, 1, 0),
+        expected: Err(Refusal(9, 1, 1, 0)),
     },
     Wide {
         count: 63,
         rest: "05\n",
-        refusal: Refusal(10, 1, 1, 64),
+        expected: Err(Refusal(10, 1, 1, 64)),
     },
 ];
 
 fn check_chains(rt: &impl Abort, heap: Global, cases: &[Chain]) -> Result<(), Fail> {
     for case in cases {
         let file = chain(heap, case.first, case.count, case.last)?;
-        check_refused(rt, heap, case.last, file.as_slice(), READINGS, case.refusal)?;
+        check(
+            rt,
+            heap,
+            &Case {
+                title: case.last,
+                policy: file.as_slice(),
+                readings: READINGS,
+                expected: Err(case.refusal),
+            },
+        )?;
     }
     Ok(())
 }
@@ -194,13 +203,15 @@ fn most_lines(runtime: HostRuntime) -> Result<(), Fail> {
         names: 1,
         rows: 1,
     };
-    check_accepted(
+    check(
         &runtime,
         heap,
-        "256 lines",
-        file.as_slice(),
-        READINGS,
-        expected,
+        &Case {
+            title: "256 lines",
+            policy: file.as_slice(),
+            readings: READINGS,
+            expected: Ok(expected),
+        },
     )?;
     check_chains(&runtime, heap, &ENDINGS)
 }
@@ -219,23 +230,27 @@ fn most_names(runtime: HostRuntime) -> Result<(), Fail> {
         names: 64,
         rows: 1,
     };
-    check_accepted(
+    check(
         &runtime,
         heap,
-        "64 names",
-        POLICY,
-        file.as_slice(),
-        expected,
+        &Case {
+            title: "64 names",
+            policy: POLICY,
+            readings: file.as_slice(),
+            expected: Ok(expected),
+        },
     )?;
     for case in &NAMES {
         let line = names(heap, case.count, case.rest)?;
-        check_refused(
+        check(
             &runtime,
             heap,
-            case.rest,
-            POLICY,
-            line.as_slice(),
-            case.refusal,
+            &Case {
+                title: case.rest,
+                policy: POLICY,
+                readings: line.as_slice(),
+                expected: Err(case.refusal),
+            },
         )?;
     }
     Ok(())
@@ -246,13 +261,15 @@ fn cells_under_most_names(runtime: HostRuntime) -> Result<(), Fail> {
     let heap = runtime.alloc();
     for case in &CELLS {
         let file = wide_row(heap, case.count, case.rest)?;
-        check_refused(
+        check(
             &runtime,
             heap,
-            case.rest,
-            POLICY,
-            file.as_slice(),
-            case.refusal,
+            &Case {
+                title: case.rest,
+                policy: POLICY,
+                readings: file.as_slice(),
+                expected: Err(case.refusal),
+            },
         )?;
     }
     Ok(())

@@ -1,6 +1,6 @@
 // What spells a field or a cell, and what does not.
 
-use crate::case::{Counts, POLICY, READINGS, Refusal, check_accepted, check_refused};
+use crate::case::{Case, Counts, POLICY, READINGS, Refusal, check};
 use std::test::Fail;
 
 // A name is a letter and up to 23 letters, digits, slashes and hyphens. A text is a letter and up to 15 letters, digits and
@@ -118,7 +118,16 @@ fn well_spelt_fields(runtime: HostRuntime) -> Result<(), Fail> {
     };
     for line in &LINES {
         let file = format!(in heap; "kind a b c d e\n{line}\npermit 1 - - - -\n")?;
-        check_accepted(&runtime, heap, line, file.as_bytes(), READINGS, expected)?;
+        check(
+            &runtime,
+            heap,
+            &Case {
+                title: line,
+                policy: file.as_bytes(),
+                readings: READINGS,
+                expected: Ok(expected),
+            },
+        )?;
     }
     Ok(())
 }
@@ -129,7 +138,16 @@ fn misspelt_fields(runtime: HostRuntime) -> Result<(), Fail> {
     let expected = Refusal(4, 1, 1, 2);
     for line in &LINES_MISSPELT {
         let file = format!(in heap; "kind a b c d e\n{line}\npermit 1 - - - -\n")?;
-        check_refused(&runtime, heap, line, file.as_bytes(), READINGS, expected)?;
+        check(
+            &runtime,
+            heap,
+            &Case {
+                title: line,
+                policy: file.as_bytes(),
+                readings: READINGS,
+                expected: Err(expected),
+            },
+        )?;
     }
     Ok(())
 }
@@ -144,7 +162,16 @@ fn well_spelt_cells(runtime: HostRuntime) -> Result<(), Fail> {
     };
     for cell in &CELLS {
         let file = format!(in heap; "valve flow rain\n- {cell} -\n")?;
-        check_accepted(&runtime, heap, cell, POLICY, file.as_bytes(), expected)?;
+        check(
+            &runtime,
+            heap,
+            &Case {
+                title: cell,
+                policy: POLICY,
+                readings: file.as_bytes(),
+                expected: Ok(expected),
+            },
+        )?;
     }
     Ok(())
 }
@@ -155,7 +182,16 @@ fn misspelt_cells(runtime: HostRuntime) -> Result<(), Fail> {
     let expected = Refusal(10, 1, 1, 2);
     for cell in &CELLS_MISSPELT {
         let file = format!(in heap; "valve flow rain\n- {cell} -\n")?;
-        check_refused(&runtime, heap, cell, POLICY, file.as_bytes(), expected)?;
+        check(
+            &runtime,
+            heap,
+            &Case {
+                title: cell,
+                policy: POLICY,
+                readings: file.as_bytes(),
+                expected: Err(expected),
+            },
+        )?;
     }
     Ok(())
 }

@@ -24,11 +24,7 @@ pub fn check_pair(
     ensures { Admits (pair_of policy_file.now readings_file.now) result }
 {
     within_limit(policy_file)?;
-    let policy = room
-        .check(policy_file)
-        .map_err(|refused| refused.rejection)?;
-    let readings = table
-        .check(readings_file)
-        .map_err(|refused| refused.rejection)?;
+    let policy = room.check(policy_file)?;
+    let readings = table.check(readings_file)?;
     Ok(Pair { policy, readings })
 }

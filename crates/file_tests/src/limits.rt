@@ -20,49 +20,49 @@ const ENDINGS: [Chain; 8] = [
         first: "true - - - - -",
         count: 255,
         last: "permit 255 - - - -",
-        expected: Err(Refusal(2, 1, 256, 0)),
+        refusal: Refusal(2, 1, 256, 0),
     },
     Chain {
         first: "true - - - - -",
         count: 255,
         last: "allow 255 - - - -\n",
-        expected: Err(Refusal(3, 1, 256, 1)),
+        refusal: Refusal(3, 1, 256, 1),
     },
     Chain {
         first: "true - - - - -",
         count: 255,
         last: "set one-app.first 255 1 - -\n",
-        expected: Err(Refusal(3, 1, 256, 2)),
+        refusal: Refusal(3, 1, 256, 2),
     },
     Chain {
         first: "true - - - - -",
         count: 255,
         last: "permit 255 - - - 0\n",
-        expected: Err(Refusal(4, 1, 256, 6)),
+        refusal: Refusal(4, 1, 256, 6),
     },
     Chain {
         first: "true - - - - -",
         count: 255,
         last: "permit 256 - - - -\n",
-        expected: Err(Refusal(5, 2, 256, 2)),
+        refusal: Refusal(5, 2, 256, 2),
     },
     Chain {
         first: "true - - - - -",
         count: 255,
         last: "permit 254 - - - -\n",
-        expected: Err(Refusal(6, 2, 256, 2)),
+        refusal: Refusal(6, 2, 256, 2),
     },
     Chain {
         first: "true - - - - -",
         count: 255,
         last: "not 255 - - - -\n",
-        expected: Err(Refusal(6, 2, 256, 0)),
+        refusal: Refusal(6, 2, 256, 0),
     },
     Chain {
         first: "true - - - - -",
         count: 255,
         last: "true - - - - -\n",
-        expected: Err(Refusal(6, 2, 255, 0)),
+        refusal: Refusal(6, 2, 255, 0),
     },
 ];
 
@@ -73,41 +73,42 @@ const LINES_TOO_MANY: [Chain; 6] = [
         first: "true - - - - -",
         count: 256,
         last: "permit 256 - - - -\n",
-        expected: Err(Refusal(7, 2, 257, 0)),
+        refusal: Refusal(7, 2, 257, 0),
     },
     Chain {
         first: "true - - - - -",
         count: 255,
         last: "permit 255 - - - -\nx",
-        expected: Err(Refusal(7, 2, 257, 0)),
+        refusal: Refusal(7, 2, 257, 0),
     },
     Chain {
         first: "true - - - - -",
         count: 255,
         last: "permit 255 - - - -\n\n",
-        expected: Err(Refusal(7, 2, 257, 0)),
+        refusal: Refusal(7, 2, 257, 0),
     },
     Chain {
         first: "true - - - - -",
         count: 255,
         last: "true - - - - -\npermit 256 - - - -\n",
-        expected: Err(Refusal(7, 2, 257, 0)),
+        refusal: Refusal(7, 2, 257, 0),
     },
     Chain {
         first: "num 01 - - - -",
         count: 256,
         last: "permit 256 - - - -\n",
-        expected: Err(Refusal(4, 1, 1, 2)),
+        refusal: Refusal(4, 1, 1, 2),
     },
     Chain {
         first: "true - - - - -",
         count: 255,
         last: "allow 255 - - - -\nx",
-        expected: Err(Refusal(3, 1, 256, 1)),
+        refusal: Refusal(3, 1, 256, 1),
     },
 ];
 
 // A number of names or cells, how the file ends after them, and what it is refused with.
+// The tests of both have a loop each, since they build their files by another function.
 struct Wide {
     count: usize,
     rest: &'static str,
@@ -119,32 +120,32 @@ const NAMES: [Wide; 6] = [
     Wide {
         count: 63,
         rest: "n1",
-        expected: Err(Refusal(8, 1, 0, 0)),
+        refusal: Refusal(8, 1, 0, 0),
     },
     Wide {
         count: 64,
         rest: "n65\n",
-        expected: Err(Refusal(8, 1, 0, 0)),
+        refusal: Refusal(8, 1, 0, 0),
     },
     Wide {
         count: 64,
         rest: "n1\n",
-        expected: Err(Refusal(8, 1, 0, 0)),
+        refusal: Refusal(8, 1, 0, 0),
     },
     Wide {
         count: 63,
         rest: "n1\n",
-        expected: Err(Refusal(8, 1, 0, 64)),
+        refusal: Refusal(8, 1, 0, 64),
     },
     Wide {
         count: 63,
         rest: "n63\n",
-        expected: Err(Refusal(8, 1, 0, 64)),
+        refusal: Refusal(8, 1, 0, 64),
     },
     Wide {
         count: 63,
         rest: "N64\n",
-        expected: Err(Refusal(8, 1, 0, 64)),
+        refusal: Refusal(8, 1, 0, 64),
     },
 ];
 
@@ -153,27 +154,27 @@ const CELLS: [Wide; 5] = [
     Wide {
         count: 62,
         rest: "-\n",
-        expected: Err(Refusal(9, 1, 1, 0)),
+        refusal: Refusal(9, 1, 1, 0),
     },
     Wide {
         count: 64,
         rest: "-\n",
-        expected: Err(Refusal(9, 1, 1, 0)),
+        refusal: Refusal(9, 1, 1, 0),
     },
     Wide {
         count: 64,
         rest: "05\n",
-        expected: Err(Refusal(9, 1, 1, 0)),
+        refusal: Refusal(9, 1, 1, 0),
     },
     Wide {
         count: 63,
         rest: "-",
-        expected: Err(Refusal(9, 1, 1, 0)),
+        refusal: Refusal(9, 1, 1, 0),
     },
     Wide {
         count: 63,
         rest: "05\n",
-        expected: Err(Refusal(10, 1, 1, 64)),
+        refusal: Refusal(10, 1, 1, 64),
     },
 ];
 

@@ -37,6 +37,7 @@ pub fn combine<G: CombiningAlgorithm, C: Decided>(
     ensures decides { result.decision ≡ (G.wording algorithm.now).decision (map C.decision_of (first.now ∷ rest.now)) }
 {
     let mut state = algorithm.start(first.decision());
+    // The index is part of the answer.
     for (i, child) in rest.iter().enumerate() {
         if stops(strategy, algorithm.is_final(state)) {
             return Combined {

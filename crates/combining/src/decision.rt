@@ -5,6 +5,7 @@ ghost use Rattle.combining.specs.Decisions.{decision_word};
 
 use std::fmt;
 
+// The tables of the algorithms have a row and a column for each, in this order.
 #[derive(Clone, Copy, PartialEq, Eq)]
 pub enum Decision {
     Permit,

@@ -11,6 +11,7 @@ use crate::decision::Decision::*;
 use spelling::algorithm::Algorithm;
 
 // A row for each decision so far, a column for each child's, both in the order permit, deny, not-app, indet.
+// Tables and no functions or closures: one computed test over all entries holds them to the wording.
 type Table = [[Decision; 4]; 4];
 
 static PERMIT_OVERRIDES: Table = [

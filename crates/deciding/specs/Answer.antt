@@ -8,7 +8,7 @@ use Rattle.deciding.specs.declared.memory.Memory.{Memory}
 
 -- the response that an answer holds
 abbrev pub response_of : Answer → Response Duty
-response_of a = record { decision = a.decision; duties = (vec_items a.duties) }
+response_of a = record { decision = a.decision; duties = vec_items a.duties }
 
 -- how many duties an answer has places for
 abbrev pub answer_places : Answer → ℕ

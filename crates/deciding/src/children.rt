@@ -1,6 +1,6 @@
 // The children of a set: their kept responses, and what is taken from them.
 
-ghost use Rattle.std.specs.Prelude.{◌≡◌, ℕ, ◌+◌, ◌<◌, ◌≤◌, List, [], ◌∷◌, ◌++◌, map, length, vec_len, vec_capacity};
+ghost use Rattle.std.specs.Prelude.{◌≡◌, ℕ, ◌+◌, ◌<◌, ◌≤◌, List, ◌∷◌, ◌++◌, map, length, vec_len, vec_capacity};
 ghost use Rattle.combining.specs.Combined.{Response};
 ghost use Rattle.trees.specs.declared.duty.Duty.{Duty};
 ghost use Rattle.trees.specs.Policies.{combined_by};

@@ -53,6 +53,7 @@ impl Known<'_> {
     }
 
     // The duty of a line, with its argument's value; for a line of another kind, a duty that nobody has.
+    // No Option, since only duty lines are kept, and the definition has the same duty for the others.
     pub(crate) fn duty_at(&self, number: LineNumber) -> Duty
         ensures { result ≡ due_at self.now number }
     {

@@ -1,7 +1,5 @@
 // A response that is kept while the lines below it are worked.
 
-ghost use Rattle.combining.specs.declared.decision.Decision.{Decision};
-
 use combining::{Decided, Decision};
 
 // The duties are `count` line numbers from `start` on in the one memory of line numbers:
@@ -14,7 +12,7 @@ pub struct Kept {
 }
 
 impl Kept {
-    // The response of a line that is no policy.
+    // The response of a line that is no policy, by the definitions too; no Option, since it is never asked whether there is one.
     pub const NONE: Kept = Kept {
         decision: Decision::Indeterminate,
         start: 0,

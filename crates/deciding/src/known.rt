@@ -9,6 +9,7 @@ use values::Value;
 
 // The first reading is what line 1 read; a line without one has read nothing.
 // The policy stays as the lines that name one another by number: a tree would have to be allocated.
+// Arms for lines that a tree has not at a place answer as the definitions do, so that these need no premise.
 #[derive(Drop)]
 pub struct Known<'a> {
     pub lines: &'a [Line],
@@ -17,7 +18,8 @@ pub struct Known<'a> {
 }
 
 impl Known<'_> {
-    // That a line number lies within is asked of each call here, since it is about two values: the number and these lines.
+    // That a number is one of a line is asked of each call here: it is about two values, the number and these lines,
+    // and a number is the u16 that lines name one another by.
     pub(crate) fn line(&self, number: LineNumber) -> Line
         requires low { 0 < number }
         requires high { number ≤ length self.now.lines.now }
@@ -26,7 +28,7 @@ impl Known<'_> {
         self.lines[usize::from(number) - 1]
     }
 
-    // The number of the last line.
+    // The number of the last line; a tree has at most 256 lines, so the cast loses nothing.
     pub(crate) fn last(&self) -> LineNumber
         ensures { result ≡ length self.now.lines.now }
     {

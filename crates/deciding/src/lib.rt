@@ -1,4 +1,5 @@
 // Deciding: a policy's answer, worked line by line from the top.
+// That a capacity stays is said at each function that takes a Vec, since public contracts promise that the very capacity stays.
 
 #![tactic(auto)]
 

@@ -1,6 +1,6 @@
 // All lines of a policy, worked from the top.
 
-ghost use Rattle.std.specs.Prelude.{◌≡◌, ◌+◌, ◌≤◌, ◌++◌, map, length, vec_len, vec_capacity};
+ghost use Rattle.std.specs.Prelude.{◌≡◌, ◌+◌, ◌≤◌, ◌++◌, length, vec_len, vec_capacity};
 ghost use Rattle.trees.specs.Policies.{respond as respond_of};
 ghost use Rattle.trees.specs.Known.{known_policy, nothing};
 ghost use Rattle.deciding.specs.Known.{size, read_dues};
@@ -24,7 +24,7 @@ impl Known<'_> {
     {
         for number in numbers {
             let duty = self.duty_at(*number);
-            // The loop gets a proof only where the type of the argument is named.
+            // In two steps: the loop gets a proof only where the type of the argument is named, so a plain push does not.
             let argument: Value = duty.argument;
             duties.push_reserved(Duty { argument, ..duty });
         }

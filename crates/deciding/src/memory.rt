@@ -6,7 +6,8 @@ use crate::kept::Kept;
 use policy::LineNumber;
 use std::alloc::{AllocError, Global};
 
-// A response for each line, by its number; lines are counted from 1, so the first stands for none.
+// A response for each line, by its number, since lines name one another by it; they are counted from 1, so the first place is unused.
+// An array and no Vec that is pushed to: the places are there from the beginning, so keeping a response cannot fail.
 pub type Responses = [Kept; 257];
 
 // The responses, the line numbers of their duties, and the children of the set that is being worked.

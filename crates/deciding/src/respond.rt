@@ -1,6 +1,6 @@
 // A policy's answer to readings.
 
-ghost use Rattle.std.specs.Prelude.{◌≡◌, ◌≤◌, [], map, length, IfOk, vec_capacity};
+ghost use Rattle.std.specs.Prelude.{◌≡◌, ◌≤◌, [], length, IfOk, vec_capacity};
 ghost use Rattle.values.specs.declared.value.Value.TheVariants.{Missing as missing};
 ghost use Rattle.policy.specs.Accepted.{lines_of};
 ghost use Rattle.readings.specs.Rows.{map_in};

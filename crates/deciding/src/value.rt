@@ -1,6 +1,6 @@
 // The value of an expression.
 
-ghost use Rattle.std.specs.Prelude.{◌≡◌, ◌<◌, ◌≤◌, map};
+ghost use Rattle.std.specs.Prelude.{◌≡◌, ◌<◌, ◌≤◌};
 ghost use Rattle.trees.specs.Expressions.{applied};
 ghost use Rattle.trees.specs.Duties.{fulfils};
 ghost use Rattle.trees.specs.Known.{read_at};
@@ -11,7 +11,7 @@ use operators::{add, and, div, equal, greater, member, mul, not, or, sub};
 use policy::{Line, LineNumber, Operator};
 use values::Value;
 
-// A match and no table of functions: each arm calls another operator, and the match stays whole when one is added.
+// A match and no table of functions: the compiler asks for an arm where an operator is added.
 #[tactic(auto, unfolding(trees::specs::Expressions::applied))]
 fn apply(operator: Operator, a: &Value, b: &Value) -> Value
     ensures { result ≡ applied operator a.now b.now }
@@ -32,10 +32,7 @@ fn apply(operator: Operator, a: &Value, b: &Value) -> Value
 pub(crate) fn is_fulfilled(argument: &Value) -> bool
     ensures { result ≡ fulfils argument.now }
 {
-    match argument {
-        Value::Bool(_) | Value::Number(_) | Value::Text(_) => true,
-        _ => false,
-    }
+    matches!(argument, Value::Bool(_) | Value::Number(_) | Value::Text(_))
 }
 
 impl Known<'_> {

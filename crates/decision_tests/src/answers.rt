@@ -19,6 +19,7 @@ const GROWER: &[u8] = b"kind a b c d e\n\
 const GROWER_READINGS: &[u8] = b"sub/role res/valve\ngrower 4\npicker 4\ngrower -\n";
 
 // Two rules that permit, each with a duty, beneath a set with a duty of its own.
+// Written out here and again below, with one word changed, so that each file can be read as a whole.
 const TWO_PERMITS: &[u8] = b"kind a b c d e\n\
       true - - - - -\n\
       num 1 - - - -\n\
@@ -57,11 +58,10 @@ fn told(heap: Global, pair: &Pair) -> Result<String, Fail> {
     let mut evaluator = Evaluator::new(heap)?;
     let mut answer = Answer::new(heap)?;
     let mut text = String::new(heap);
-    for index in 0..pair.readings.row_count() {
-        if let Some(row) = pair.readings.row(index) {
-            evaluator.respond_to_row(&pair.policy, &row, &mut answer);
-            tell(heap, &answer, &mut text)?;
-        }
+    let rows = (0..pair.readings.row_count()).filter_map(|index| pair.readings.row(index));
+    for row in rows {
+        evaluator.respond_to_row(&pair.policy, &row, &mut answer);
+        tell(heap, &answer, &mut text)?;
     }
     Ok(text)
 }

@@ -10,7 +10,7 @@ use values::Value;
 
 const LEAST: i32 = -2147483648;
 
-// A value in a word.
+// A value in a word; nothing else prints values, so there is no Display for them.
 fn word(heap: Global, value: Value) -> Result<String, Fail> {
     match value {
         Value::Missing => Ok(String::from_str(heap, "missing")?),

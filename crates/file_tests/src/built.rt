@@ -33,8 +33,7 @@ pub(crate) fn chain(heap: Global, first: &str, count: usize, last: &str) -> io::
 // A readings file that begins with `count` names, `n1`, `n2` and so on, each with a space after it, and then has `rest`.
 pub(crate) fn names(heap: Global, count: usize, rest: &str) -> io::Result<Vec<u8>> {
     let mut file = Vec::new(heap);
-    for place in 0..count {
-        let number = place.saturating_add(1);
+    for number in 1..=count {
         write!(file, "n{number} ")?;
     }
     write!(file, "{rest}")?;

@@ -1,7 +1,7 @@
 // Policies of the most lines, and readings of the most names.
 
 use crate::built::{chain, names, wide_row};
-use crate::case::{Counts, POLICY, READINGS, Refusal, check_accepted, check_refused};
+use crate::case::{Case, Counts, POLICY, READINGS, Refusal, check};
 use std::alloc::Global;
 use std::process::Abort;
 use std::test::Fail;
@@ -108,6 +108,7 @@ const LINES_TOO_MANY: [Chain; 6] = [
 ];
 
 // A number of names or cells, how the file ends after them, and what it is refused with.
+// The tests of both have a loop each, since they build their files by another function.
 struct Wide {
     count: usize,
     rest: &'static str,
@@ -180,7 +181,16 @@ const CELLS: [Wide; 5] = [
 fn check_chains(rt: &impl Abort, heap: Global, cases: &[Chain]) -> Result<(), Fail> {
     for case in cases {
         let file = chain(heap, case.first, case.count, case.last)?;
-        check_refused(rt, heap, case.last, file.as_slice(), READINGS, case.refusal)?;
+        check(
+            rt,
+            heap,
+            &Case {
+                title: case.last,
+                policy: file.as_slice(),
+                readings: READINGS,
+                expected: Err(case.refusal),
+            },
+        )?;
     }
     Ok(())
 }
@@ -194,13 +204,15 @@ fn most_lines(runtime: HostRuntime) -> Result<(), Fail> {
         names: 1,
         rows: 1,
     };
-    check_accepted(
+    check(
         &runtime,
         heap,
-        "256 lines",
-        file.as_slice(),
-        READINGS,
-        expected,
+        &Case {
+            title: "256 lines",
+            policy: file.as_slice(),
+            readings: READINGS,
+            expected: Ok(expected),
+        },
     )?;
     check_chains(&runtime, heap, &ENDINGS)
 }
@@ -219,23 +231,27 @@ fn most_names(runtime: HostRuntime) -> Result<(), Fail> {
         names: 64,
         rows: 1,
     };
-    check_accepted(
+    check(
         &runtime,
         heap,
-        "64 names",
-        POLICY,
-        file.as_slice(),
-        expected,
+        &Case {
+            title: "64 names",
+            policy: POLICY,
+            readings: file.as_slice(),
+            expected: Ok(expected),
+        },
     )?;
     for case in &NAMES {
         let line = names(heap, case.count, case.rest)?;
-        check_refused(
+        check(
             &runtime,
             heap,
-            case.rest,
-            POLICY,
-            line.as_slice(),
-            case.refusal,
+            &Case {
+                title: case.rest,
+                policy: POLICY,
+                readings: line.as_slice(),
+                expected: Err(case.refusal),
+            },
         )?;
     }
     Ok(())
@@ -246,13 +262,15 @@ fn cells_under_most_names(runtime: HostRuntime) -> Result<(), Fail> {
     let heap = runtime.alloc();
     for case in &CELLS {
         let file = wide_row(heap, case.count, case.rest)?;
-        check_refused(
+        check(
             &runtime,
             heap,
-            case.rest,
-            POLICY,
-            file.as_slice(),
-            case.refusal,
+            &Case {
+                title: case.rest,
+                policy: POLICY,
+                readings: file.as_slice(),
+                expected: Err(case.refusal),
+            },
         )?;
     }
     Ok(())

@@ -10,37 +10,37 @@ const LINES: [Case; 6] = [
         title: "a misspelt number above an unknown kind",
         policy: b"kind a b c d e\nnum 01 - - - -\nnon 1 - - - -\n",
         readings: READINGS,
-        refusal: Refusal(4, 1, 1, 2),
+        expected: Err(Refusal(4, 1, 1, 2)),
     },
     Case {
         title: "an unknown kind above a line of four spaces",
         policy: b"kind a b c d e\nnon - - - - -\ntrue - - - -\n",
         readings: READINGS,
-        refusal: Refusal(3, 1, 1, 1),
+        expected: Err(Refusal(3, 1, 1, 1)),
     },
     Case {
         title: "a line of four spaces below a line that is never named",
         policy: b"kind a b c d e\ntrue - - - - -\ntrue - - - - -\npermit 2 - - -\n",
         readings: READINGS,
-        refusal: Refusal(2, 1, 3, 0),
+        expected: Err(Refusal(2, 1, 3, 0)),
     },
     Case {
         title: "a line that is not above, below a line that is never named",
         policy: b"kind a b c d e\ntrue - - - - -\ntrue - - - - -\npermit 3 - - - -\n",
         readings: READINGS,
-        refusal: Refusal(5, 2, 3, 2),
+        expected: Err(Refusal(5, 2, 3, 2)),
     },
     Case {
         title: "two lines that are never named",
         policy: b"kind a b c d e\ntrue - - - - -\ntrue - - - - -\ntrue - - - - -\npermit 3 - - - -\n",
         readings: READINGS,
-        refusal: Refusal(6, 2, 1, 0),
+        expected: Err(Refusal(6, 2, 1, 0)),
     },
     Case {
         title: "a line that is never named above a last line that is no policy",
         policy: b"kind a b c d e\ntrue - - - - -\ntrue - - - - -\n",
         readings: READINGS,
-        refusal: Refusal(6, 2, 1, 0),
+        expected: Err(Refusal(6, 2, 1, 0)),
     },
 ];
 
@@ -50,31 +50,31 @@ const FIELDS: [Case; 5] = [
         title: "an unknown kind in a line of four spaces",
         policy: b"kind a b c d e\nnon - - - -\npermit 1 - - - -\n",
         readings: READINGS,
-        refusal: Refusal(2, 1, 1, 0),
+        expected: Err(Refusal(2, 1, 1, 0)),
     },
     Case {
         title: "an unknown kind before a misspelt field",
         policy: b"kind a b c d e\nnon 01 - - - -\npermit 1 - - - -\n",
         readings: READINGS,
-        refusal: Refusal(3, 1, 1, 1),
+        expected: Err(Refusal(3, 1, 1, 1)),
     },
     Case {
         title: "a misspelt name before a field that has to be unused",
         policy: b"kind a b c d e\nattr Role - - - x\npermit 1 - - - -\n",
         readings: READINGS,
-        refusal: Refusal(4, 1, 1, 2),
+        expected: Err(Refusal(4, 1, 1, 2)),
     },
     Case {
         title: "a line that is not above before a misspelt field",
         policy: b"kind a b c d e\nequal 9 01 - - -\npermit 1 - - - -\n",
         readings: READINGS,
-        refusal: Refusal(5, 2, 1, 2),
+        expected: Err(Refusal(5, 2, 1, 2)),
     },
     Case {
         title: "a second naming before a line that is not above",
         policy: b"kind a b c d e\ntrue - - - - -\nnot 1 - - - -\nequal 1 9 - - -\n",
         readings: READINGS,
-        refusal: Refusal(6, 2, 3, 2),
+        expected: Err(Refusal(6, 2, 3, 2)),
     },
 ];
 
@@ -85,13 +85,13 @@ const CAUSES: [Case; 3] = [
         title: "a misspelt number of a line that is not above",
         policy: b"kind a b c d e\nnot 07 - - - -\npermit 1 - - - -\n",
         readings: READINGS,
-        refusal: Refusal(4, 1, 1, 2),
+        expected: Err(Refusal(4, 1, 1, 2)),
     },
     Case {
         title: "a misspelt number of a line that is named already",
         policy: b"kind a b c d e\ntrue - - - - -\nequal 1 01 - - -\npermit 2 - - - -\n",
         readings: READINGS,
-        refusal: Refusal(4, 1, 2, 3),
+        expected: Err(Refusal(4, 1, 2, 3)),
     },
     Case {
         title: "a line of another family that is named already",
@@ -101,7 +101,7 @@ const CAUSES: [Case; 3] = [
                   item 2 - - - -\n\
                   not 2 - - - -\n",
         readings: READINGS,
-        refusal: Refusal(5, 2, 4, 2),
+        expected: Err(Refusal(5, 2, 4, 2)),
     },
 ];
 
@@ -112,43 +112,43 @@ const TABLE: [Case; 7] = [
         title: "a misspelt name in a line without byte 10",
         policy: POLICY,
         readings: b"Valve flow",
-        refusal: Refusal(8, 1, 0, 0),
+        expected: Err(Refusal(8, 1, 0, 0)),
     },
     Case {
         title: "a repeated name before a misspelt one",
         policy: POLICY,
         readings: b"valve valve Flow\n4 5 6\n",
-        refusal: Refusal(8, 1, 0, 2),
+        expected: Err(Refusal(8, 1, 0, 2)),
     },
     Case {
         title: "a misspelt name before a repeated one",
         policy: POLICY,
         readings: b"valve Flow valve\n4 5 6\n",
-        refusal: Refusal(8, 1, 0, 2),
+        expected: Err(Refusal(8, 1, 0, 2)),
     },
     Case {
         title: "a misspelt name above a row of another width",
         policy: POLICY,
         readings: b"valve Flow\n4\n",
-        refusal: Refusal(8, 1, 0, 2),
+        expected: Err(Refusal(8, 1, 0, 2)),
     },
     Case {
         title: "a misspelt cell above a row without byte 10",
         policy: POLICY,
         readings: b"valve flow\n4 05\n4 5",
-        refusal: Refusal(10, 1, 1, 2),
+        expected: Err(Refusal(10, 1, 1, 2)),
     },
     Case {
         title: "a misspelt cell in a row of another width",
         policy: POLICY,
         readings: b"valve flow\n04 5 6\n",
-        refusal: Refusal(9, 1, 1, 0),
+        expected: Err(Refusal(9, 1, 1, 0)),
     },
     Case {
         title: "two misspelt cells",
         policy: POLICY,
         readings: b"valve flow\n04 05\n",
-        refusal: Refusal(10, 1, 1, 1),
+        expected: Err(Refusal(10, 1, 1, 1)),
     },
 ];
 
@@ -158,19 +158,19 @@ const FILES: [Case; 3] = [
         title: "two empty files",
         policy: b"",
         readings: b"",
-        refusal: Refusal(1, 1, 0, 0),
+        expected: Err(Refusal(1, 1, 0, 0)),
     },
     Case {
         title: "a misspelt field and a misspelt name",
         policy: b"kind a b c d e\nnum -0 - - - -\npermit 1 - - - -\n",
         readings: b"Valve\n4\n",
-        refusal: Refusal(4, 1, 1, 2),
+        expected: Err(Refusal(4, 1, 1, 2)),
     },
     Case {
         title: "a last line that is no policy and a misspelt cell",
         policy: b"kind a b c d e\ntrue - - - - -\nnot 1 - - - -\n",
         readings: b"valve\n04\n",
-        refusal: Refusal(6, 2, 2, 0),
+        expected: Err(Refusal(6, 2, 2, 0)),
     },
 ];
 

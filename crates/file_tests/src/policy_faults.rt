@@ -9,25 +9,25 @@ const LINE_ZERO: [Case; 4] = [
         title: "an empty file",
         policy: b"",
         readings: READINGS,
-        refusal: Refusal(1, 1, 0, 0),
+        expected: Err(Refusal(1, 1, 0, 0)),
     },
     Case {
         title: "line 0 without byte 10",
         policy: b"kind a b c d e",
         readings: READINGS,
-        refusal: Refusal(1, 1, 0, 0),
+        expected: Err(Refusal(1, 1, 0, 0)),
     },
     Case {
         title: "line 0 with another letter",
         policy: b"kind a b c d f\ntrue - - - - -\npermit 1 - - - -\n",
         readings: READINGS,
-        refusal: Refusal(1, 1, 0, 0),
+        expected: Err(Refusal(1, 1, 0, 0)),
     },
     Case {
         title: "line 0 with a space at its end",
         policy: b"kind a b c d e \ntrue - - - - -\npermit 1 - - - -\n",
         readings: READINGS,
-        refusal: Refusal(1, 1, 0, 0),
+        expected: Err(Refusal(1, 1, 0, 0)),
     },
 ];
 
@@ -37,31 +37,31 @@ const SHAPE: [Case; 5] = [
         title: "line 1 with four spaces",
         policy: b"kind a b c d e\ntrue - - - -\npermit 1 - - - -\n",
         readings: READINGS,
-        refusal: Refusal(2, 1, 1, 0),
+        expected: Err(Refusal(2, 1, 1, 0)),
     },
     Case {
         title: "line 1 with six spaces",
         policy: b"kind a b c d e\ntrue - - - - - \npermit 1 - - - -\n",
         readings: READINGS,
-        refusal: Refusal(2, 1, 1, 0),
+        expected: Err(Refusal(2, 1, 1, 0)),
     },
     Case {
         title: "line 1 without a byte",
         policy: b"kind a b c d e\n\n",
         readings: READINGS,
-        refusal: Refusal(2, 1, 1, 0),
+        expected: Err(Refusal(2, 1, 1, 0)),
     },
     Case {
         title: "line 1 without byte 10",
         policy: b"kind a b c d e\ntrue - - - - -",
         readings: READINGS,
-        refusal: Refusal(2, 1, 1, 0),
+        expected: Err(Refusal(2, 1, 1, 0)),
     },
     Case {
         title: "the last line without byte 10",
         policy: b"kind a b c d e\ntrue - - - - -\nnot 1 - - - -\npermit 2 - - - -",
         readings: READINGS,
-        refusal: Refusal(2, 1, 3, 0),
+        expected: Err(Refusal(2, 1, 3, 0)),
     },
 ];
 
@@ -72,25 +72,25 @@ const WORDS: [Case; 6] = [
         title: "an unknown kind in line 1",
         policy: b"kind a b c d e\ntruth - - - - -\npermit 1 - - - -\n",
         readings: READINGS,
-        refusal: Refusal(3, 1, 1, 1),
+        expected: Err(Refusal(3, 1, 1, 1)),
     },
     Case {
         title: "a kind of no byte",
         policy: b"kind a b c d e\n - - - - -\n",
         readings: READINGS,
-        refusal: Refusal(3, 1, 1, 1),
+        expected: Err(Refusal(3, 1, 1, 1)),
     },
     Case {
         title: "an unknown kind in the last line",
         policy: b"kind a b c d e\ntrue - - - - -\nPermit 1 - - - -\n",
         readings: READINGS,
-        refusal: Refusal(3, 1, 2, 1),
+        expected: Err(Refusal(3, 1, 2, 1)),
     },
     Case {
         title: "an algorithm of no name",
         policy: b"kind a b c d e\nset .all - - - -\n",
         readings: READINGS,
-        refusal: Refusal(3, 1, 1, 2),
+        expected: Err(Refusal(3, 1, 1, 2)),
     },
     Case {
         title: "an algorithm without all or greedy",
@@ -101,7 +101,7 @@ const WORDS: [Case; 6] = [
                   true - - - - -\n\
                   set p-over 4 3 - -\n",
         readings: READINGS,
-        refusal: Refusal(3, 1, 5, 2),
+        expected: Err(Refusal(3, 1, 5, 2)),
     },
     Case {
         title: "an algorithm with another word after the point",
@@ -112,7 +112,7 @@ const WORDS: [Case; 6] = [
                   true - - - - -\n\
                   set d-over.every 4 3 - -\n",
         readings: READINGS,
-        refusal: Refusal(3, 1, 5, 2),
+        expected: Err(Refusal(3, 1, 5, 2)),
     },
 ];
 
@@ -122,19 +122,19 @@ const FIELDS: [Case; 4] = [
         title: "a misspelt name in line 1",
         policy: b"kind a b c d e\nattr Role - - - -\npermit 1 - - - -\n",
         readings: READINGS,
-        refusal: Refusal(4, 1, 1, 2),
+        expected: Err(Refusal(4, 1, 1, 2)),
     },
     Case {
         title: "the last field of a line that does not use it",
         policy: b"kind a b c d e\ntrue - - - - 1\npermit 1 - - - -\n",
         readings: READINGS,
-        refusal: Refusal(4, 1, 1, 6),
+        expected: Err(Refusal(4, 1, 1, 6)),
     },
     Case {
         title: "an item that a set lacks",
         policy: b"kind a b c d e\ntrue - - - - -\nset p-over.all 1 - - -\n",
         readings: READINGS,
-        refusal: Refusal(4, 1, 2, 4),
+        expected: Err(Refusal(4, 1, 2, 4)),
     },
     Case {
         title: "the last field of a set",
@@ -145,7 +145,7 @@ const FIELDS: [Case; 4] = [
                   true - - - - -\n\
                   set p-over.all 4 3 - 01\n",
         readings: READINGS,
-        refusal: Refusal(4, 1, 5, 6),
+        expected: Err(Refusal(4, 1, 5, 6)),
     },
 ];
 
@@ -155,37 +155,37 @@ const NAMING: [Case; 8] = [
         title: "line 1 names itself",
         policy: b"kind a b c d e\nnot 1 - - - -\npermit 1 - - - -\n",
         readings: READINGS,
-        refusal: Refusal(5, 2, 1, 2),
+        expected: Err(Refusal(5, 2, 1, 2)),
     },
     Case {
         title: "line 1 names a line below it",
         policy: b"kind a b c d e\nnot 2 - - - -\ntrue - - - - -\npermit 1 - - - -\n",
         readings: READINGS,
-        refusal: Refusal(5, 2, 1, 2),
+        expected: Err(Refusal(5, 2, 1, 2)),
     },
     Case {
         title: "line 0 is no line above",
         policy: b"kind a b c d e\ntrue - - - - -\npermit 0 - - - -\n",
         readings: READINGS,
-        refusal: Refusal(5, 2, 2, 2),
+        expected: Err(Refusal(5, 2, 2, 2)),
     },
     Case {
         title: "a line number below 0",
         policy: b"kind a b c d e\ntrue - - - - -\npermit -3 - - - -\n",
         readings: READINGS,
-        refusal: Refusal(5, 2, 2, 2),
+        expected: Err(Refusal(5, 2, 2, 2)),
     },
     Case {
         title: "a policy in the place of an expression",
         policy: b"kind a b c d e\ntrue - - - - -\npermit 1 - - - -\nnot 2 - - - -\n",
         readings: READINGS,
-        refusal: Refusal(5, 2, 3, 2),
+        expected: Err(Refusal(5, 2, 3, 2)),
     },
     Case {
         title: "an expression in the place of a duty",
         policy: b"kind a b c d e\ntrue - - - - -\ntrue - - - - -\npermit 1 2 - - -\n",
         readings: READINGS,
-        refusal: Refusal(5, 2, 3, 3),
+        expected: Err(Refusal(5, 2, 3, 3)),
     },
     Case {
         title: "a line that is not above, in the last field of a set",
@@ -196,7 +196,7 @@ const NAMING: [Case; 8] = [
                   true - - - - -\n\
                   set p-over.all 4 3 - 5\n",
         readings: READINGS,
-        refusal: Refusal(5, 2, 5, 6),
+        expected: Err(Refusal(5, 2, 5, 6)),
     },
     Case {
         title: "an expression in the last field of a set",
@@ -208,7 +208,7 @@ const NAMING: [Case; 8] = [
                   true - - - - -\n\
                   set p-over.all 4 3 - 5\n",
         readings: READINGS,
-        refusal: Refusal(5, 2, 6, 6),
+        expected: Err(Refusal(5, 2, 6, 6)),
     },
 ];
 
@@ -219,13 +219,13 @@ const ONCE: [Case; 7] = [
         title: "a line that is named twice in a line",
         policy: b"kind a b c d e\ntrue - - - - -\nequal 1 1 - - -\npermit 2 - - - -\n",
         readings: READINGS,
-        refusal: Refusal(6, 2, 2, 3),
+        expected: Err(Refusal(6, 2, 2, 3)),
     },
     Case {
         title: "a line that is named by two lines",
         policy: b"kind a b c d e\ntrue - - - - -\nnot 1 - - - -\nand 2 1 - - -\npermit 3 - - - -\n",
         readings: READINGS,
-        refusal: Refusal(6, 2, 3, 3),
+        expected: Err(Refusal(6, 2, 3, 3)),
     },
     Case {
         title: "a duty that a set names in both of its last fields",
@@ -238,31 +238,31 @@ const ONCE: [Case; 7] = [
                   must 0 5 - - -\n\
                   set p-over.all 4 3 6 6\n",
         readings: READINGS,
-        refusal: Refusal(6, 2, 7, 6),
+        expected: Err(Refusal(6, 2, 7, 6)),
     },
     Case {
         title: "line 1 is never named",
         policy: b"kind a b c d e\ntrue - - - - -\ntrue - - - - -\npermit 2 - - - -\n",
         readings: READINGS,
-        refusal: Refusal(6, 2, 1, 0),
+        expected: Err(Refusal(6, 2, 1, 0)),
     },
     Case {
         title: "the line above the last is never named",
         policy: b"kind a b c d e\ntrue - - - - -\ntrue - - - - -\npermit 1 - - - -\n",
         readings: READINGS,
-        refusal: Refusal(6, 2, 2, 0),
+        expected: Err(Refusal(6, 2, 2, 0)),
     },
     Case {
         title: "an expression alone",
         policy: b"kind a b c d e\ntrue - - - - -\n",
         readings: READINGS,
-        refusal: Refusal(6, 2, 1, 0),
+        expected: Err(Refusal(6, 2, 1, 0)),
     },
     Case {
         title: "the last line is an item",
         policy: b"kind a b c d e\ntrue - - - - -\npermit 1 - - - -\nitem 2 - - - -\n",
         readings: READINGS,
-        refusal: Refusal(6, 2, 3, 0),
+        expected: Err(Refusal(6, 2, 3, 0)),
     },
 ];
 
@@ -271,7 +271,7 @@ const COUNT: [Case; 1] = [Case {
     title: "line 0 alone",
     policy: b"kind a b c d e\n",
     readings: READINGS,
-    refusal: Refusal(7, 2, 1, 0),
+    expected: Err(Refusal(7, 2, 1, 0)),
 }];
 
 #[test]

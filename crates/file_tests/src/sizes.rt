@@ -1,7 +1,7 @@
 // Files of the most bytes.
 
 use crate::built::repeated;
-use crate::case::{Counts, POLICY, READINGS, Refusal, check_accepted, check_refused};
+use crate::case::{Case, Counts, POLICY, READINGS, Refusal, check};
 use std::test::Fail;
 
 // What has no place in a file is reported at line 0 and field 0.
@@ -18,22 +18,26 @@ fn large_readings(runtime: HostRuntime) -> Result<(), Fail> {
         names: 1,
         rows: 16_381,
     };
-    check_accepted(
+    check(
         &runtime,
         heap,
-        "32,768 bytes",
-        POLICY,
-        file.as_slice(),
-        expected,
+        &Case {
+            title: "32,768 bytes",
+            policy: POLICY,
+            readings: file.as_slice(),
+            expected: Ok(expected),
+        },
     )?;
     file.push(b'x')?;
-    check_refused(
+    check(
         &runtime,
         heap,
-        "32,769 bytes",
-        POLICY,
-        file.as_slice(),
-        TOO_SMALL,
+        &Case {
+            title: "32,769 bytes",
+            policy: POLICY,
+            readings: file.as_slice(),
+            expected: Err(TOO_SMALL),
+        },
     )
 }
 
@@ -43,41 +47,25 @@ fn large_readings(runtime: HostRuntime) -> Result<(), Fail> {
 fn large_policies(runtime: HostRuntime) -> Result<(), Fail> {
     let heap = runtime.alloc();
     let most = repeated(heap, b"", b"x", 32_768)?;
-    check_refused(
-        &runtime,
-        heap,
-        "32,768 bytes",
-        most.as_slice(),
-        READINGS,
-        Refusal(1, 1, 0, 0),
-    )?;
     let over = repeated(heap, b"", b"x", 32_769)?;
-    check_refused(
-        &runtime,
-        heap,
-        "32,769 bytes",
-        over.as_slice(),
-        READINGS,
-        TOO_SMALL,
-    )?;
     let lines = repeated(heap, b"kind a b c d e\n", b"true - - - - -\n", 2_183)?;
-    check_refused(
-        &runtime,
-        heap,
-        "32,760 bytes",
-        lines.as_slice(),
-        READINGS,
-        Refusal(7, 2, 257, 0),
-    )?;
     let more = repeated(heap, b"kind a b c d e\n", b"true - - - - -\n", 2_184)?;
-    check_refused(
-        &runtime,
-        heap,
-        "32,775 bytes",
-        more.as_slice(),
-        READINGS,
-        TOO_SMALL,
-    )
+    let cases = [
+        ("32,768 bytes", most.as_slice(), Refusal(1, 1, 0, 0)),
+        ("32,769 bytes", over.as_slice(), TOO_SMALL),
+        ("32,760 bytes", lines.as_slice(), Refusal(7, 2, 257, 0)),
+        ("32,775 bytes", more.as_slice(), TOO_SMALL),
+    ];
+    for (title, policy, refusal) in cases {
+        let case = Case {
+            title,
+            policy,
+            readings: READINGS,
+            expected: Err(refusal),
+        };
+        check(&runtime, heap, &case)?;
+    }
+    Ok(())
 }
 
 // The policy file comes first, its size before its faults; then the readings file likewise.
@@ -85,45 +73,23 @@ fn large_policies(runtime: HostRuntime) -> Result<(), Fail> {
 fn large_files_in_turn(runtime: HostRuntime) -> Result<(), Fail> {
     let heap = runtime.alloc();
     let over = repeated(heap, b"", b"x", 32_769)?;
-    check_refused(
-        &runtime,
-        heap,
-        "no line 0",
-        b"",
-        over.as_slice(),
-        Refusal(1, 1, 0, 0),
-    )?;
-    let no_lines = b"kind a b c d e\n";
-    check_refused(
-        &runtime,
-        heap,
-        "line 0 alone",
-        no_lines,
-        over.as_slice(),
-        Refusal(7, 2, 1, 0),
-    )?;
-    check_refused(
-        &runtime,
-        heap,
-        "readings without a name",
-        POLICY,
-        over.as_slice(),
-        TOO_SMALL,
-    )?;
-    check_refused(
-        &runtime,
-        heap,
-        "both at fault",
-        over.as_slice(),
-        b"",
-        TOO_SMALL,
-    )?;
-    check_refused(
-        &runtime,
-        heap,
-        "both too large",
-        over.as_slice(),
-        over.as_slice(),
-        TOO_SMALL,
-    )
+    let over = over.as_slice();
+    let no_lines = b"kind a b c d e\n".as_slice();
+    let cases = [
+        ("no line 0", b"".as_slice(), over, Refusal(1, 1, 0, 0)),
+        ("line 0 alone", no_lines, over, Refusal(7, 2, 1, 0)),
+        ("readings without a name", POLICY, over, TOO_SMALL),
+        ("both at fault", over, b"".as_slice(), TOO_SMALL),
+        ("both too large", over, over, TOO_SMALL),
+    ];
+    for (title, policy, readings, refusal) in cases {
+        let case = Case {
+            title,
+            policy,
+            readings,
+            expected: Err(refusal),
+        };
+        check(&runtime, heap, &case)?;
+    }
+    Ok(())
 }

@@ -1,6 +1,8 @@
 // What spells a field or a cell, and what does not.
 
-use crate::case::{Counts, POLICY, READINGS, Refusal, check_accepted, check_refused};
+use crate::case::{Case, Counts, POLICY, READINGS, Refusal, check};
+use std::alloc::Global;
+use std::process::Abort;
 use std::test::Fail;
 
 // A name is a letter and up to 23 letters, digits, slashes and hyphens. A text is a letter and up to 15 letters, digits and
@@ -108,54 +110,74 @@ const CELLS_MISSPELT: [&str; 28] = [
     "a,b,c,d,e,f,g,h,i",
 ];
 
-#[test]
-fn well_spelt_fields(runtime: HostRuntime) -> Result<(), Fail> {
-    let heap = runtime.alloc();
-    let expected = Counts {
-        lines: 2,
-        names: 1,
-        rows: 1,
-    };
-    for line in &LINES {
+// Each line stands above a rule that names it.
+fn check_lines(
+    rt: &impl Abort,
+    heap: Global,
+    lines: &[&str],
+    expected: Result<Counts, Refusal>,
+) -> Result<(), Fail> {
+    for line in lines {
         let file = format!(in heap; "kind a b c d e\n{line}\npermit 1 - - - -\n")?;
-        check_accepted(&runtime, heap, line, file.as_bytes(), READINGS, expected)?;
+        let case = Case {
+            title: line,
+            policy: file.as_bytes(),
+            readings: READINGS,
+            expected,
+        };
+        check(rt, heap, &case)?;
     }
     Ok(())
 }
 
 #[test]
+fn well_spelt_fields(runtime: HostRuntime) -> Result<(), Fail> {
+    let expected = Counts {
+        lines: 2,
+        names: 1,
+        rows: 1,
+    };
+    check_lines(&runtime, runtime.alloc(), &LINES, Ok(expected))
+}
+
+#[test]
 fn misspelt_fields(runtime: HostRuntime) -> Result<(), Fail> {
-    let heap = runtime.alloc();
     let expected = Refusal(4, 1, 1, 2);
-    for line in &LINES_MISSPELT {
-        let file = format!(in heap; "kind a b c d e\n{line}\npermit 1 - - - -\n")?;
-        check_refused(&runtime, heap, line, file.as_bytes(), READINGS, expected)?;
+    check_lines(&runtime, runtime.alloc(), &LINES_MISSPELT, Err(expected))
+}
+
+// Each cell stands between two others.
+fn check_cells(
+    rt: &impl Abort,
+    heap: Global,
+    cells: &[&str],
+    expected: Result<Counts, Refusal>,
+) -> Result<(), Fail> {
+    for cell in cells {
+        let file = format!(in heap; "valve flow rain\n- {cell} -\n")?;
+        let case = Case {
+            title: cell,
+            policy: POLICY,
+            readings: file.as_bytes(),
+            expected,
+        };
+        check(rt, heap, &case)?;
     }
     Ok(())
 }
 
 #[test]
 fn well_spelt_cells(runtime: HostRuntime) -> Result<(), Fail> {
-    let heap = runtime.alloc();
     let expected = Counts {
         lines: 2,
         names: 3,
         rows: 1,
     };
-    for cell in &CELLS {
-        let file = format!(in heap; "valve flow rain\n- {cell} -\n")?;
-        check_accepted(&runtime, heap, cell, POLICY, file.as_bytes(), expected)?;
-    }
-    Ok(())
+    check_cells(&runtime, runtime.alloc(), &CELLS, Ok(expected))
 }
 
 #[test]
 fn misspelt_cells(runtime: HostRuntime) -> Result<(), Fail> {
-    let heap = runtime.alloc();
     let expected = Refusal(10, 1, 1, 2);
-    for cell in &CELLS_MISSPELT {
-        let file = format!(in heap; "valve flow rain\n- {cell} -\n")?;
-        check_refused(&runtime, heap, cell, POLICY, file.as_bytes(), expected)?;
-    }
-    Ok(())
+    check_cells(&runtime, runtime.alloc(), &CELLS_MISSPELT, Err(expected))
 }

@@ -70,10 +70,9 @@ const EVERY_KIND: &[u8] = b"kind a b c d e\n\
 const BEFORE: u8 = b'#';
 
 fn accepted(heap: Global, file: &[u8]) -> Result<Policy, Fail> {
-    match Room::new(heap)?.check(file) {
-        Ok(policy) => Ok(policy),
-        Err(_) => Err(Fail::new("the policy was not accepted")),
-    }
+    Room::new(heap)?
+        .check(file)
+        .map_err(|_| Fail::new("the policy was not accepted"))
 }
 
 // Writing puts the very file that was checked at the front of the buffer and says how long it is; the rest of the buffer stays.

@@ -1,8 +1,7 @@
 // The operators that compare: `equal`, `member` for `in`, and `greater`.
 
-ghost use Rattle.std.specs.Prelude.{◌≡◌, map};
-ghost use Rattle.std.specs.Str.{bytes_eq};
-ghost use Rattle.operators.specs.Operators.{equal_of, in_of, greater_of, among};
+ghost use Rattle.std.specs.Prelude.{◌≡◌};
+ghost use Rattle.operators.specs.Operators.{equal_of, in_of, greater_of};
 
 use crate::sides::not_taken;
 use values::Value;

@@ -15,6 +15,7 @@ pub struct Pair {
 }
 
 // Checks the policy file and then the readings file; the first fault counts.
+// The memory is the caller's, who reserves it once: no function here reserves and checks in one.
 pub fn check_pair(
     room: Room,
     table: TableRoom,
@@ -24,11 +25,7 @@ pub fn check_pair(
     ensures { Admits (pair_of policy_file.now readings_file.now) result }
 {
     within_limit(policy_file)?;
-    let policy = room
-        .check(policy_file)
-        .map_err(|refused| refused.rejection)?;
-    let readings = table
-        .check(readings_file)
-        .map_err(|refused| refused.rejection)?;
+    let policy = room.check(policy_file)?;
+    let readings = table.check(readings_file)?;
     Ok(Pair { policy, readings })
 }

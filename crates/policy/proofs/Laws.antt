@@ -1,4 +1,5 @@
 -- What holds of every accepted file.
+use Rattle.std.proofs.lemmas.Option.{same_Some}
 use Rattle.std.proofs.Common.{◌≡◌, ℕ, zero, suc, ◌+◌, ◌-◌, ◌<◌, ◌≤◌, true, false, cond, ◌&&◌, eqb, ltb, List, [], ◌∷◌, ◌++◌, length, get_or, take, drop, replicate, Some, None, Ok, codes, Option, sym, refl, ap, ◌∙◌, subst, ⊎_elim, append_assoc, arith, length-drop}
 use Rattle.std.proofs.lemmas.List.{length_push, length-take-le, get_or-take, get_or-drop, append-nil, get_or_append_left, get_or_push}
 use Rattle.std.proofs.lemmas.Bool.{and_parts, cases_eq, eqb-false}
@@ -9,7 +10,7 @@ use Rattle.refusals.specs.Places.{at_line}
 use Rattle.refusals.specs.declared.cause.Cause.TheVariants as why
 use Rattle.spelling.specs.Cuts.{cut_of, parts, six_of}
 use Rattle.spelling.proofs.Back.{cut_back, fields_back}
-use Rattle.spelling.proofs.Inversions.{bind-some, held, some_same, same}
+use Rattle.spelling.proofs.Inversions.{bind-some, held, same}
 use Rattle.policy.specs.declared.line.Family.TheVariants as family
 use Rattle.policy.specs.declared.line.Line.{Line}
 use Rattle.policy.specs.declared.line.Line.TheVariants as l
@@ -76,11 +77,11 @@ unmarked_none : (n : ℕ) (ms : Marks) → unmarked_from n ms ≡ None → (k : 
 unmarked_none n [] h k lt = absurd (omega arith)
 unmarked_none n (true ∷ ms) h zero lt = refl
 unmarked_none n (true ∷ ms) h (suc k) lt = unmarked_none (n + 1) ms h k (omega arith)
-unmarked_none n (false ∷ ms) h k lt = let z : ◌≡◌ {A = ℕ} 0 1 = cc in absurd (omega arith)
+unmarked_none n (false ∷ ms) h k lt = cc
 
 all_named_lem : (o : Option ℕ) (u : Unit {0}) → all_named o ≡ Ok u → o ≡ None
 all_named_lem None u h = refl
-all_named_lem (Some n) u h = let z : ◌≡◌ {A = ℕ} 0 1 = cc in absurd (omega arith)
+all_named_lem (Some n) u h = cc
 
 end_tree : (ls : List Line) (ms : Marks) → Good ls ms → length ls ≤ 256 → (u : Unit {0}) → end_of ls ms ≡ Ok u → Tree ls
 end_tree ls ms g le u h =
@@ -142,7 +143,7 @@ body_whole : (left : ℕ) (ls : List Line) (ms : Marks) (xs : List ℕ) (out : L
 body_whole left ls ms [] out n g h =
     let r = bind_ok (end_of ls ms) _ out h in
     subst (λ o. Whole ls [] o) (ok_same r.1.1) (record { tree = end_tree ls ms g (omega arith) r.0 r.1.0; spells = sym (append-nil (rows ls)); spelled = g.spelled })
-body_whole zero ls ms (x ∷ xs) out n g h = let z : ◌≡◌ {A = ℕ} 0 1 = cc in absurd (omega arith)
+body_whole zero ls ms (x ∷ xs) out n g h = cc
 body_whole (suc left) ls ms (x ∷ xs) out n g h =
     let a = bind_ok (at_line (length ls + 1) (step_of ls ms (x ∷ xs))) _ out h in
     let s = a.0 in
@@ -166,10 +167,10 @@ header_back : (xs body : List ℕ) → header_of xs ≡ Some body → codes "kin
 header_back xs body h =
     let p = bind-some (cut_of 10 xs) _ body h in
     let q = held (bytes_eq p.0.0 (codes "kind a b c d e")) (Some p.0.1) body p.1.1 in
-    (λ i. sym (same p.0.0 (codes "kind a b c d e") q.0) i ++ 10 ∷ sym (some_same q.1) i) ∙ cut_back 10 xs p.0 p.1.0
+    (λ i. sym (same p.0.0 (codes "kind a b c d e") q.0) i ++ 10 ∷ sym (same_Some _ _ q.1) i) ∙ cut_back 10 xs p.0 p.1.0
 
 after-header : (xs : List ℕ) (o : Option (List ℕ)) (ls : List Line) → header_of xs ≡ o → after_header o ≡ Ok ls → Spells xs ls
-after-header xs None ls w h = let z : ◌≡◌ {A = ℕ} 0 1 = cc in absurd (omega arith)
+after-header xs None ls w h = cc
 after-header xs (Some body) ls w h =
     let r = body_whole 256 [] no_marks body ls refl start h in
     record { file = ap (λ y. codes "kind a b c d e" ++ 10 ∷ y) r.spells ∙ header_back xs body w; tree = r.tree; fields = r.spelled }

@@ -104,7 +104,7 @@ module _ (ls : List Line) (ms : Marks) (f : Six) (lt : length ls < length ms) wh
       let e : (x, ms) ≡ p = ok_same h in
       let w = g x refl in
       subst Reads e (record { named = subst (λ rs. Named ls ms rs ms) (sym w.0) (none ls ms); spells = w.1; spelled = w.2 })
-  plain (Err e) p h g = let z : ◌≡◌ {A = ℕ} 0 1 = cc in absurd (omega arith)
+  plain (Err e) p h g = cc
 
   truth_reads : (b : Bool) (p : Line × Marks) → f.kind ≡ truth_word b → marking (truth_of b f) ms ≡ Ok p → Reads p
   truth_reads b p w h = plain (truth_of b f) p h (λ x g.

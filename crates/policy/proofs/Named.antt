@@ -1,4 +1,5 @@
 -- What the references of a line do to the marks.
+use Rattle.std.proofs.lemmas.Option.{same_Some}
 use Rattle.std.proofs.Common.{◌≡◌, ℕ, ◌+◌, ◌<◌, ◌≤◌, Bool, true, false, cond, ◌&&◌, eqb, ltb, leb, List, [], ◌∷◌, ◌++◌, length, get_or, set, ℤ, pos, negsuc, Some, None, Ok, Err, codes, decimal, Option, Result, sym, refl, ap, ◌∙◌, subst, ⊎_elim, arith, length-set, get_or-set_other, get_or-set_same}
 use Rattle.std.proofs.lemmas.Bool.{cases_eq}
 use Rattle.std.proofs.lemmas.Bool.Decides.{nat_tests}
@@ -9,7 +10,7 @@ use Rattle.refusals.specs.declared.cause.Cause.{Cause}
 use Rattle.refusals.specs.declared.cause.Cause.TheVariants as why
 use Rattle.spelling.specs.Numbers.{line_number_of}
 use Rattle.spelling.proofs.Back.{number_back}
-use Rattle.spelling.proofs.Inversions.{same, held, some_same}
+use Rattle.spelling.proofs.Inversions.{same, held}
 use Rattle.policy.specs.declared.line.Line.{Line}
 use Rattle.policy.specs.declared.line.Family.{Family}
 use Rattle.policy.specs.Lines.{family_of, same_family, line_at, Reference, names, may_name}
@@ -61,7 +62,7 @@ flagged ms j k lt off = ⊎_elim
 above-ok : (n : ℕ) (z : ℤ) (k : ℕ) → above n z ≡ Some k → (z ≡ pos k) × (0 < k) × (k ≤ n)
 above-ok n (pos j) k h =
     let p = held (leb 1 j && leb j n) (Some j) k h in
-    let e = some_same p.1 in
+    let e = same_Some _ _ p.1 in
     let lo : 1 ≤ j = grind (arith, nat_tests) in
     let hi : j ≤ n = grind (arith, nat_tests) in
     (ap pos e, omega (arith, e), omega (arith, e))
@@ -97,7 +98,7 @@ pub record MayRefer (want : Family) (ls : List Line) (ms : Marks) (xs : List ℕ
 
 some-ok : (r : Result (ℕ × Marks) Cause) (p : Option ℕ × Marks) → some r ≡ Ok p → (q : ℕ × Marks) × ((r ≡ Ok q) × ((Some q.0, q.1) ≡ p))
 some-ok (Ok q) p h = (q, (refl, ok_same h))
-some-ok (Err e) p h = let z : ◌≡◌ {A = ℕ} 0 1 = cc in absurd (omega arith)
+some-ok (Err e) p h = cc
 
 pub may_refer : (want : Family) (ls : List Line) (ms : Marks) (xs : List ℕ) (p : Option ℕ × Marks) → length ls < length ms → may_refer_of want ls ms xs ≡ Ok p → MayRefer want ls ms xs p
 may_refer want ls ms xs p lt h = at (bytes_eq xs (codes "-")) refl h where

@@ -6,6 +6,7 @@ ghost use Rattle.policy.specs.Tree.{Above, Once, last_is_policy};
 use crate::line::Line;
 
 // Empty memory, reserved for the lines of any policy.
+// A Vec and a ghost field, here and wherever memory is reserved: a type of its own would repeat the methods of Vec.
 #[derive(Drop)]
 pub struct Room {
     pub(crate) lines: Vec<Line>,
@@ -15,6 +16,7 @@ pub struct Room {
 
 // The lines of an accepted file. That they form a tree is part of the type, so nobody tests it again:
 // each names only lines above it, in places of their family, and each but the last is named once.
+// Lines that name one another by number, and no boxes, since reading a file may not allocate.
 #[derive(Drop)]
 pub struct Policy {
     pub(crate) lines: Vec<Line>,

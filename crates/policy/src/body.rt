@@ -11,14 +11,16 @@ use crate::line::{Family, Line};
 use refusals::place::at_line;
 use refusals::{Cause, Rejection};
 use spelling::cut::{cut, split};
-use spelling::word::is;
 
 // What follows line 0.
 fn header<'a>(file: &'a [u8]) -> Option<&'a [u8]>
     ensures { each (λ x. x.now) result ≡ header_of file.now }
 {
     let (first, rest) = cut(file, b'\n')?;
-    is(first, b"kind a b c d e").then_some(rest)
+    match first {
+        b"kind a b c d e" => Some(rest),
+        _ => None,
+    }
 }
 
 // The index of the first mark that is not set.
@@ -65,7 +67,7 @@ impl Draft {
     }
 
     // The lines after line 0, at most 256.
-    // No `for` over `split`, which would also give what follows the last byte 10, and tell no longer whether that byte is there.
+    // No `for` over `split`, which does not tell whether byte 10 is at the end, nor over `split_inclusive`, of whose pieces its contract tells nothing.
     fn read_body(&mut self, body: &[u8]) -> Result<(), Rejection>
         ensures value { with_lines result self.new.lines.items ≡ body_of (256 - length self.old.lines.items) self.old.lines.items self.old.named body.now }
         ensures capacity { vec_capacity self.new.lines ≡ vec_capacity self.old.lines }

@@ -17,7 +17,8 @@ pub(crate) fn unused(field: &[u8]) -> Result<(), Cause>
     }
 }
 
-// The last two fields are unused. One function for two, three and four of them would be a loop over a list of fields and numbers: no plainer.
+// The last two fields are unused.
+// One function for each of two, three and four, as in the definitions: one for all would be a loop over a list of the fields with their numbers.
 pub(crate) fn last_two(fields: &Fields) -> Result<(), LineFault>
     ensures { result ≡ last_two (seen fields.now) }
 {

@@ -13,7 +13,7 @@ use refusals::{Cause, LineFault};
 use spelling::algorithm::read_combining;
 use spelling::cut::Fields;
 use spelling::number::{action, number};
-use spelling::word::{is, name, text};
+use spelling::word::{name, text};
 
 // A line that names no other, from what its one field spells.
 fn leaf_line(fields: &Fields, line: Option<Line>) -> Result<Line, LineFault>
@@ -55,7 +55,7 @@ impl Draft {
         Ok(Line::Duty(force, action, argument, earlier))
     }
 
-    // Item and rule lines differ in both families and in what they make: one function would take all three, and be no plainer.
+    // Binary, item and rule lines differ in both families and in what they make: one function would take all three, and be no plainer.
     fn item_line(&mut self, fields: &Fields) -> Result<Line, LineFault>
         ensures value { marking result self.new.named ≡ item_of self.old.lines.items self.old.named (seen fields.now) }
         ensures lines { self.new.lines ≡ self.old.lines }
@@ -96,7 +96,7 @@ impl Draft {
         match kind {
             Kind::Truth(value) => leaf_line(
                 fields,
-                is(fields.a, b"-").then_some(Line::Truth(value)),
+                matches!(fields.a, b"-").then_some(Line::Truth(value)),
             ),
             Kind::Attribute => leaf_line(fields, name(fields.a).map(Line::Attribute)),
             Kind::Number => leaf_line(fields, number(fields.a).map(Line::Number)),

@@ -1,6 +1,6 @@
 // A row of cells.
 
-ghost use Rattle.std.specs.Prelude.{◌≡◌, ◌+◌, ◌≤◌, map, length, vec_len, vec_capacity};
+ghost use Rattle.std.specs.Prelude.{◌≡◌, ◌+◌, ◌≤◌, length, vec_len, vec_capacity};
 ghost use Rattle.refusals.specs.Results.{or_refuse};
 ghost use Rattle.refusals.specs.declared.cause.Cause.TheVariants.{CellMisspelt};
 ghost use Rattle.spelling.specs.Cells.{cell_of};

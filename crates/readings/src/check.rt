@@ -1,6 +1,6 @@
 // The check of a readings file.
 
-ghost use Rattle.std.specs.Prelude.{◌≡◌, ◌≤◌, map, IfOk};
+ghost use Rattle.std.specs.Prelude.{◌≡◌, ◌≤◌, IfOk};
 ghost use Rattle.readings.specs.Outcome.{Answers, names_in, cells_in, places_of, places_in};
 
 use crate::table::{Readings, RefusedTable, TableRoom};

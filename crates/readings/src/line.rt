@@ -17,7 +17,7 @@ pub(crate) fn count_parts(line: &[u8]) -> usize
 
 // Reads the parts of `rest` from `field` on, each with `read`, which also sees the items before it.
 // By recursion, since a `for` over `split` in a generic function gets no proof.
-// The capacity stands here and at each caller: a struct around the Vec would only repeat `push_reserved`.
+// That the capacity stays is said here and at each caller, since public contracts promise that the very capacity stays.
 pub(crate) fn read_parts<T: Drop, F: Fn(&[u8], &[T]) -> Result<T, Cause>>(
     rest: &[u8],
     field: usize,

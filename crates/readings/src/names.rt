@@ -1,18 +1,18 @@
 // The line of names.
 
-ghost use Rattle.std.specs.Prelude.{◌≡◌, ◌≤◌, [], map, vec_len, vec_capacity};
+ghost use Rattle.std.specs.Prelude.{◌≡◌, ◌≤◌, [], vec_len, vec_capacity};
 ghost use Rattle.readings.specs.Table.{among, fresh_name, names_of};
 ghost use Rattle.readings.specs.Read.{items_as};
 
 use crate::line::{count_parts, read_parts};
 use refusals::{Cause, LineFault};
-use spelling::word::{is, name};
+use spelling::word::name;
 use values::Name;
 
 fn has_name(names: &[Name], s: &[u8]) -> bool
     ensures { result ≡ among s.now names.now }
 {
-    names.iter().any(|x| is(x.as_bytes(), s))
+    names.iter().any(|x| x.as_bytes() == s)
 }
 
 // A name that is spelled well and new.

@@ -4,7 +4,6 @@ ghost use Rattle.std.specs.Prelude.{◌≡◌, take, drop};
 ghost use Rattle.readings.specs.Rows.{map_in, RowIs};
 
 use crate::table::Readings;
-use spelling::word::is;
 use values::{Name, Value};
 
 // The names, and their values in the same order: two slices lent from the table, since pairs would have to be copied into memory of their own.
@@ -22,12 +21,12 @@ impl Row<'_> {
         self.names
             .iter()
             .zip(self.cells)
-            .find(|(x, _)| is(x.as_bytes(), name))
+            .find(|(x, _)| x.as_bytes() == name)
             .map_or(Value::Missing, |(_, cell)| *cell)
     }
 }
 
-// The cells from `start` on, at most `count` of them.
+// The cells from `start` on, at most `count` of them. With `min` and no test, since a row past the last is asked for nowhere.
 fn part(cells: &[Value], start: usize, count: usize) -> &[Value]
     ensures { result.now ≡ take count (drop start cells.now) }
 {

@@ -17,7 +17,8 @@ pub struct TableRoom {
 }
 
 // The names, and the values of all rows, one row after the other, in the order of the names.
-// One vector for the cells of all rows, with the number of rows beside it: a vector for each row would have to be allocated while the file is read.
+// One vector for the cells of all rows: a vector for each row would have to be allocated while the file is read.
+// The number of rows stands beside it, since reading counts the rows anyhow, and from the cells it would come by a division.
 #[derive(Drop)]
 pub struct Readings {
     pub(crate) names: Vec<Name>,

@@ -6,14 +6,15 @@ ghost use Rattle.refusals.specs.Places.{at_field, at_line, refused_line};
 use crate::cause::Cause;
 use std::fmt;
 
-// A fault in a line. Field 0 stands for the line as a whole: the report writes 0 where no field applies, so it is no Option.
+// A fault in a line; field 0 stands for the line as a whole.
+// Numbers and no Options: a report and the definitions count lines and fields from 0, and line 0 is a line of the file.
 #[derive(Clone, Copy, PartialEq, Eq)]
 pub struct LineFault {
     pub cause: Cause,
     pub field: usize,
 }
 
-// A refusal: its cause, and the line and the field where it lies, 0 where none applies, as the report writes them.
+// A refusal: its cause, and the line and the field where it lies, 0 where none applies; numbers as in `LineFault`.
 #[derive(Clone, Copy, PartialEq, Eq)]
 pub struct Rejection {
     pub cause: Cause,
@@ -57,7 +58,7 @@ pub fn at_field<T: Drop>(read: Result<T, Cause>, field: usize) -> Result<T, Line
     read.map_err(|cause| LineFault { cause, field })
 }
 
-// A function for the same reason.
+// A function and no method of LineFault, for the same reason.
 pub fn at_line<T: Drop>(read: Result<T, LineFault>, line: usize) -> Result<T, Rejection>
     ensures { result ≡ at_line line read }
 {

@@ -1,5 +1,7 @@
 // A refused call that hands its memory back.
 
+ghost use Rattle.std.specs.Prelude.{◌≡◌};
+
 use crate::place::Rejection;
 
 // Why a file is refused, and the memory for the next try.
@@ -7,4 +9,13 @@ use crate::place::Rejection;
 pub struct Refused<M> {
     pub rejection: Rejection,
     pub room: M,
+}
+
+// The memory is given up.
+impl<M: Drop> From<Refused<M>> for Rejection {
+    ghost from_gives = { λ refused rejection. rejection ≡ refused.rejection };
+
+    fn from(refused: Refused<M>) -> Rejection {
+        refused.rejection
+    }
 }

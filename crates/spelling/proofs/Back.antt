@@ -1,4 +1,5 @@
 -- What was read is spelled in one way: each reader's value gives back the bytes.
+use Rattle.std.proofs.lemmas.Option.{same_Some}
 use Rattle.std.proofs.Common.{◌≡◌, ℕ, zero, suc, ◌+◌, ◌-◌, ◌*◌, ◌≤◌, Bool, true, false, cond, eqb, ltb, leb, List, [], ◌∷◌, ◌++◌, length, ℤ, pos, negsuc, neg_ℤ, Some, None, decimal, Option, sym, refl, ap, ◌∙◌, ⊎_elim, arith, rules}
 use Rattle.std.proofs.lemmas.Fmt.{decimal-digits_value}
 use Rattle.std.proofs.lemmas.Str.Parse.{IsNumeralModel, numerals_by_fold}
@@ -17,7 +18,7 @@ use Rattle.spelling.specs.declared.algorithm.Combining.{Combining}
 use Rattle.spelling.specs.declared.algorithm.Strategy.{Strategy}
 use Rattle.spelling.specs.declared.algorithm.Strategy.TheVariants as s
 use Rattle.spelling.proofs.Cuts.{parts-some, some-part}
-use Rattle.spelling.proofs.Inversions.{bind-some, each-some, past, held, some_same, either, same}
+use Rattle.spelling.proofs.Inversions.{bind-some, each-some, past, held, either, same}
 
 abbrev pub read_on : ℕ → List ℕ → ℕ
 read_on n [] = n
@@ -27,7 +28,7 @@ pub own : IsNumeralModel (λ ds. all_ascii_digits ds ≡ true) (read_on 0)
 own = numerals_by_fold _ (search rules) read_on (search rules)
 
 digits_read : (n : ℕ) (xs : List ℕ) (k : ℕ) → digits_after n xs ≡ Some k → (k ≡ read_on n xs) × (all_ascii_digits xs ≡ true)
-digits_read n [] k h = (sym (some_same h), refl)
+digits_read n [] k h = (sym (same_Some _ _ h), refl)
 digits_read n (b ∷ bs) k h =
     let p = held (is_digit b) _ k h in
     let q = digits_read (n * 10 + (b - 48)) bs k p.1 in
@@ -35,10 +36,10 @@ digits_read n (b ∷ bs) k h =
     (q.0 ∙ ap (λ m. read_on m bs) same, grind (arith, nat_tests))
 
 pub at_most_lem : (limit : ℕ) (o : Option ℕ) (k : ℕ) → at_most limit o ≡ Some k → (o ≡ Some k) × (k ≤ limit)
-at_most_lem limit None k h = let z : ◌≡◌ {A = ℕ} 0 1 = cc in absurd (omega arith)
+at_most_lem limit None k h = cc
 at_most_lem limit (Some n) k h =
     let p = held (leb n limit) (Some n) k h in
-    let e = some_same p.1 in
+    let e = same_Some _ _ p.1 in
     let le : n ≤ limit = grind (arith, nat_tests) in
     (p.1, omega (arith, e))
 
@@ -48,7 +49,7 @@ spelled_so b bs k le first h =
     ap decimal d.0 ∙ decimal-digits_value own (b ∷ bs) d.1 (omega arith) (λ e. omega (arith, first e)) (omega (arith, d.0))
 
 natural_back : (xs : List ℕ) (k : ℕ) → k ≤ 4294967295 → natural_of xs ≡ Some k → decimal k ≡ xs
-natural_back [] k le h = let z : ◌≡◌ {A = ℕ} 0 1 = cc in absurd (omega arith)
+natural_back [] k le h = cc
 natural_back (b ∷ []) k le h = spelled_so b [] k le (λ _. refl) h
 natural_back (b ∷ c ∷ bs) k le h =
     let p = past (eqb b 48) (digits_after 0 (b ∷ c ∷ bs)) k h in
@@ -56,11 +57,11 @@ natural_back (b ∷ c ∷ bs) k le h =
 
 positive-some : (o : Option ℕ) (z : ℤ) → positive o ≡ Some z → (n : ℕ) × ((o ≡ Some n) × (pos n ≡ z))
 positive-some None z h = let w : ◌≡◌ {A = ℕ} 0 1 = cc in absurd (omega arith)
-positive-some (Some n) z h = (n, (refl, some_same h))
+positive-some (Some n) z h = (n, (refl, same_Some _ _ h))
 
 negative-some : (o : Option ℕ) (z : ℤ) → negative o ≡ Some z → (n : ℕ) × ((o ≡ Some n) × ((n ≡ 0 → ⊥) × (neg_ℤ (pos n) ≡ z)))
 negative-some None z h = let w : ◌≡◌ {A = ℕ} 0 1 = cc in absurd (omega arith)
-negative-some (Some n) z h = let p = past (eqb n 0) (Some (neg_ℤ (pos n))) z h in (n, (refl, (eqb-false n 0 p.0, some_same p.1)))
+negative-some (Some n) z h = let p = past (eqb n 0) (Some (neg_ℤ (pos n))) z h in (n, (refl, (eqb-false n 0 p.0, same_Some _ _ p.1)))
 
 minus_back : (n : ℕ) (xs : List ℕ) (z : ℤ) → (n ≡ 0 → ⊥) → decimal n ≡ xs → neg_ℤ (pos n) ≡ z → signed_decimal z ≡ 45 ∷ xs
 minus_back zero xs z apart e h = absurd (apart refl)
@@ -78,7 +79,7 @@ number_back (b ∷ bs) z h = ⊎_elim
     (either (eqb b 45) _ _ z h)
 
 fifteen : (z : ℤ) (k : ℕ) → to_fifteen z ≡ Some k → z ≡ pos k
-fifteen (pos n) k h = ap pos (some_same (at_most_lem 15 (Some n) k h).0)
+fifteen (pos n) k h = ap pos (same_Some _ _ (at_most_lem 15 (Some n) k h).0)
 fifteen (negsuc n) k h = let w : ◌≡◌ {A = ℕ} 0 1 = cc in absurd (omega arith)
 
 pub action_back : (xs : List ℕ) (k : ℕ) → action_of xs ≡ Some k → decimal k ≡ xs
@@ -90,21 +91,21 @@ pub name_back : (xs : List ℕ) (x : Name) → name_of xs ≡ Some x → x ≡ x
 name_back xs x h =
     let p = held (is_word true xs) (name_for xs) x h in
     let q = past (ltb 24 (length xs)) _ x p.1 in
-    sym (some_same q.1)
+    sym (same_Some _ _ q.1)
 
 pub text_back : (xs : List ℕ) (x : Text) → text_of xs ≡ Some x → x ≡ xs
 text_back xs x h =
     let p = held (is_text xs) (text_for xs) x h in
     let q = past (ltb 16 (length xs)) _ x p.1 in
-    sym (some_same q.1)
+    sym (same_Some _ _ q.1)
 
 -- one word of a chain of words
 pub choice : {A : Type 0} (word : A → List ℕ) (t : Bool) (i : A) (r : Option A) (o : A) (xs : List ℕ) → (t ≡ true → xs ≡ word i) → (r ≡ Some o → xs ≡ word o) → cond t (Some i) r ≡ Some o → xs ≡ word o
-choice word true i r o xs f g h = f refl ∙ ap word (some_same h)
+choice word true i r o xs f g h = f refl ∙ ap word (same_Some _ _ h)
 choice word false i r o xs f g h = g h
 
 pub no_choice : {A : Type 0} (word : A → List ℕ) (o : A) (xs : List ℕ) → ◌≡◌ {A = Option A} None (Some o) → xs ≡ word o
-no_choice word o xs h = let z : ◌≡◌ {A = ℕ} 0 1 = cc in absurd (omega arith)
+no_choice word o xs h = cc
 
 algorithm_back : (xs : List ℕ) (o : Algorithm) → algorithm_named xs ≡ Some o → xs ≡ algorithm_word o
 algorithm_back xs o =
@@ -150,14 +151,14 @@ combining_back xs c h =
     ap combining_word (sym r.1.1) ∙ (λ i. sym (algorithm_back p.0.0 q.0 q.1.0) i ++ 46 ∷ sym (strategy_back p.0.1 r.0 r.1.0) i) ∙ cut_back 46 xs p.0 p.1.0
 
 six-parts : (ps : List (List ℕ)) (f : Six) → six_of ps ≡ Some f → ps ≡ f.kind ∷ f.a ∷ f.b ∷ f.c ∷ f.d ∷ f.e ∷ []
-six-parts [] f h = let z : ◌≡◌ {A = ℕ} 0 1 = cc in absurd (omega arith)
-six-parts (k ∷ []) f h = let z : ◌≡◌ {A = ℕ} 0 1 = cc in absurd (omega arith)
-six-parts (k ∷ a ∷ []) f h = let z : ◌≡◌ {A = ℕ} 0 1 = cc in absurd (omega arith)
-six-parts (k ∷ a ∷ b ∷ []) f h = let z : ◌≡◌ {A = ℕ} 0 1 = cc in absurd (omega arith)
-six-parts (k ∷ a ∷ b ∷ c ∷ []) f h = let z : ◌≡◌ {A = ℕ} 0 1 = cc in absurd (omega arith)
-six-parts (k ∷ a ∷ b ∷ c ∷ d ∷ []) f h = let z : ◌≡◌ {A = ℕ} 0 1 = cc in absurd (omega arith)
-six-parts (k ∷ a ∷ b ∷ c ∷ d ∷ e ∷ []) f h = ap (λ (g : Six). g.kind ∷ g.a ∷ g.b ∷ g.c ∷ g.d ∷ g.e ∷ []) (some_same h)
-six-parts (k ∷ a ∷ b ∷ c ∷ d ∷ e ∷ g ∷ gs) f h = let z : ◌≡◌ {A = ℕ} 0 1 = cc in absurd (omega arith)
+six-parts [] f h = cc
+six-parts (k ∷ []) f h = cc
+six-parts (k ∷ a ∷ []) f h = cc
+six-parts (k ∷ a ∷ b ∷ []) f h = cc
+six-parts (k ∷ a ∷ b ∷ c ∷ []) f h = cc
+six-parts (k ∷ a ∷ b ∷ c ∷ d ∷ []) f h = cc
+six-parts (k ∷ a ∷ b ∷ c ∷ d ∷ e ∷ []) f h = ap (λ (g : Six). g.kind ∷ g.a ∷ g.b ∷ g.c ∷ g.d ∷ g.e ∷ []) (same_Some _ _ h)
+six-parts (k ∷ a ∷ b ∷ c ∷ d ∷ e ∷ g ∷ gs) f h = cc
 
 -- six fields joined by spaces
 pub fields_back : (xs : List ℕ) (f : Six) → six_of (parts 32 xs) ≡ Some f → join 32 (f.kind ∷ f.a ∷ f.b ∷ f.c ∷ f.d ∷ f.e ∷ []) ≡ xs

@@ -141,7 +141,7 @@ six_by_cuts =
 
 pub cut_shorter : (b : ℕ) (xs : List ℕ) (p : List ℕ × List ℕ) → cut_of b xs ≡ Some p → length p.1 < length xs
 cut_shorter b xs p h = ⊎_elim
-    (λ t. let z : ◌≡◌ {A = ℕ} 0 1 = cc in absurd (omega arith))
+    (λ t. cc)
     (λ t. let e : (take (reach b xs) xs, drop (reach b xs + 1) xs) ≡ p = cc in
     let apart = eqb-false (reach b xs) (length xs) t in
     let le = reach-within b xs in

@@ -2,7 +2,7 @@
 use Rattle.std.proofs.Common.{◌≡◌, ℕ, suc, ◌+◌, ◌-◌, ◌*◌, ◌<◌, ◌≤◌, Bool, true, false, cond, ◌&&◌, eqb, ltb, leb, List, [], ◌∷◌, ◌++◌, length, get_or, take, drop, ℤ, pos, Some, None, codes, decimal, Option, refl, ap, ◌∙◌, ⊎_elim, add-one, arith, length-append}
 use Rattle.std.proofs.lemmas.Fmt.{digits_decimal, digits_value-decimal, decimal_digit, decimal_nonempty, first_decimal}
 use Rattle.std.proofs.lemmas.List.{take_at}
-use Rattle.std.proofs.lemmas.Bool.{eqb-true, cases_eq}
+use Rattle.std.proofs.lemmas.Bool.{and_parts, eqb-true, cases_eq}
 use Rattle.std.proofs.lemmas.Bool.Decides.{nat_tests}
 use Rattle.std.specs.Str.{all_ascii_digits, bytes_eq}
 use Rattle.spelling.specs.Cuts.{reach, cut_of, parts, Six, six_of}
@@ -21,39 +21,34 @@ over c (b ∷ bs) = ltb c b && over c bs
 abbrev pub plain : List ℕ → Bool
 plain xs = over 32 xs
 
-pub both_true : (t u : Bool) → t && u ≡ true → (t ≡ true) × (u ≡ true)
-both_true true u e = (refl, e)
-both_true false true e = (e, refl)
-both_true false false e = (e, e)
-
 pub over-both : (c : ℕ) (xs ys : List ℕ) → over c xs ≡ true → over c ys ≡ true → over c (xs ++ ys) ≡ true
 over-both c [] ys p q = q
-over-both c (x ∷ xs) ys p q = let r = both_true (ltb c x) (over c xs) p in (λ i. r.0 i && over-both c xs ys r.1 q i)
+over-both c (x ∷ xs) ys p q = let r = and_parts (ltb c x) (over c xs) p in (λ i. r.0 i && over-both c xs ys r.1 q i)
 
 pub over-ten : (xs : List ℕ) → plain xs ≡ true → over 10 xs ≡ true
 over-ten [] p = refl
 over-ten (x ∷ xs) p =
-    let r = both_true (ltb 32 x) (over 32 xs) p in
+    let r = and_parts (ltb 32 x) (over 32 xs) p in
     let above : ltb 10 x ≡ true = grind (arith, nat_tests) in
     (λ i. above i && over-ten xs r.1 i)
 
 -- a separator that stands nowhere
 
 apart_step : (n r : ℕ) (t : Bool) → t ≡ false → r ≡ n → cond t 0 (r + 1) ≡ suc n
-apart_step n r true h e = let z : ◌≡◌ {A = ℕ} 0 1 = cc in absurd (omega arith)
+apart_step n r true h e = cc
 apart_step n r false h e = omega arith
 
 pub reach-all : (b : ℕ) (xs : List ℕ) → over b xs ≡ true → reach b xs ≡ length xs
 reach-all b [] p = refl
 reach-all b (x ∷ xs) p =
-    let r = both_true (ltb b x) (over b xs) p in
+    let r = and_parts (ltb b x) (over b xs) p in
     let apart : eqb x b ≡ false = grind (arith, nat_tests) in
     apart_step (length xs) (reach b xs) (eqb x b) apart (reach-all b xs r.1)
 
 reach-front : (b : ℕ) (xs ys : List ℕ) → over b xs ≡ true → reach b (xs ++ b ∷ ys) ≡ length xs
 reach-front b [] ys p = let e : eqb b b ≡ true = grind (arith, nat_tests) in ap (λ t. cond t 0 (reach b ys + 1)) e
 reach-front b (x ∷ xs) ys p =
-    let r = both_true (ltb b x) (over b xs) p in
+    let r = and_parts (ltb b x) (over b xs) p in
     let apart : eqb x b ≡ false = grind (arith, nat_tests) in
     apart_step (length xs) (reach b (xs ++ b ∷ ys)) (eqb x b) apart (reach-front b xs ys r.1)
 
@@ -90,7 +85,7 @@ six-forward f p q r s t u =
 word_plain : (slash : Bool) (xs : List ℕ) → all_word_bytes slash xs ≡ true → plain xs ≡ true
 word_plain slash [] h = refl
 word_plain slash (b ∷ bs) h =
-    let r = both_true (is_word_byte slash b) (all_word_bytes slash bs) h in
+    let r = and_parts (is_word_byte slash b) (all_word_bytes slash bs) h in
     let above : ltb 32 b ≡ true = byte slash b r.0 in
     (λ i. above i && word_plain slash bs r.1 i) where
       byte : (t : Bool) (x : ℕ) → is_word_byte t x ≡ true → ltb 32 x ≡ true
@@ -100,7 +95,7 @@ word_plain slash (b ∷ bs) h =
 pub is_word_plain : (slash : Bool) (xs : List ℕ) → is_word slash xs ≡ true → plain xs ≡ true
 is_word_plain slash [] h = refl
 is_word_plain slash (b ∷ bs) h =
-    let r = both_true (is_letter b) (all_word_bytes slash bs) h in
+    let r = and_parts (is_letter b) (all_word_bytes slash bs) h in
     let above : ltb 32 b ≡ true = grind (arith, nat_tests) in
     (λ i. above i && word_plain slash bs r.1 i)
 
@@ -175,7 +170,7 @@ pub not_dash : (xs : List ℕ) (z : ℤ) → number_of xs ≡ Some z → bytes_e
 not_dash [] z h = refl
 not_dash (b ∷ []) z h = dash (eqb b 45) refl where
   dash : (t : Bool) → eqb b 45 ≡ t → t && true ≡ false
-  dash true e = let z : ◌≡◌ {A = ℕ} 0 1 = cc in absurd (omega arith)
+  dash true e = cc
   dash false e = refl
 not_dash (b ∷ c ∷ bs) z h = apart (eqb b 45) where
   apart : (t : Bool) → t && false ≡ false

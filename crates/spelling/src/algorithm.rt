@@ -5,7 +5,7 @@ ghost use Rattle.spelling.specs.Algorithms.{algorithm_named, strategy_named, com
 
 use crate::cut::cut;
 
-#[derive(Clone, Copy)]
+#[derive(Clone, Copy, PartialEq, Eq)]
 pub enum Algorithm {
     PermitOverrides,
     DenyOverrides,
@@ -18,14 +18,14 @@ pub enum Algorithm {
 }
 
 // Whether a set visits every child or stops once its decision is final.
-#[derive(Clone, Copy)]
+#[derive(Clone, Copy, PartialEq, Eq)]
 pub enum Strategy {
     All,
     Greedy,
 }
 
 // How a set combines its children.
-#[derive(Clone, Copy)]
+#[derive(Clone, Copy, PartialEq, Eq)]
 pub struct Combining {
     pub algorithm: Algorithm,
     pub strategy: Strategy,

@@ -13,7 +13,7 @@ ghost use Rattle.spelling.specs.Cells.{read_all, at_most_eight, gathered, word_o
 
 use crate::cut::cut;
 use crate::number::number;
-use crate::word::{is, text};
+use crate::word::text;
 use values::{Few, Text, Value};
 
 // What a cell may have one or several of.
@@ -79,7 +79,7 @@ impl Member for Text {
 }
 
 // The members of `set` and those that `s` spells, joined by commas.
-// A recursion over one cut, as the definitions of parts are: a `for` over `split` in a generic function gets no proof.
+// A recursion: a `for` over `split` that needs an invariant gets no proof in a generic function.
 fn more<T: Member>(s: &[u8], set: Few<T>) -> Option<Few<T>>
     requires { FitsInMemory (few_row T.row) }
     ensures { result ≡ bind (read_all T.spelt (parts 44 s.now)) (λ xs. at_most_eight (set ++ xs)) }
@@ -105,12 +105,10 @@ fn members<T: Member>(s: &[u8]) -> Option<Value>
 fn words(s: &[u8]) -> Option<Value>
     ensures { result ≡ word_of s.now (bind (read_all text_of (parts 44 s.now)) (gathered a_text some_texts)) }
 {
-    if is(s, b"true") {
-        Some(Value::Bool(true))
-    } else if is(s, b"false") {
-        Some(Value::Bool(false))
-    } else {
-        members::<Text>(s)
+    match s {
+        b"true" => Some(Value::Bool(true)),
+        b"false" => Some(Value::Bool(false)),
+        _ => members::<Text>(s),
     }
 }
 
@@ -120,11 +118,9 @@ pub fn cell(s: &[u8]) -> Option<Value>
 {
     match s {
         [] => None,
-        [first, ..] => match *first as char {
-            '-' if s.len() == 1 => Some(Value::Missing),
-            '!' if s.len() == 1 => Some(Value::Error),
-            'a'..='z' => words(s),
-            _ => members::<i32>(s),
-        },
+        b"-" => Some(Value::Missing),
+        b"!" => Some(Value::Error),
+        [b'a'..=b'z', ..] => words(s),
+        _ => members::<i32>(s),
     }
 }

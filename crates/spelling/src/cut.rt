@@ -3,10 +3,10 @@
 ghost use Rattle.std.specs.Prelude.{◌≡◌, ◌<◌, ◌==◌, length, IfSome};
 ghost use Rattle.std.specs.List.{position};
 ghost use Rattle.values.specs.Options.{each};
-ghost use Rattle.spelling.specs.Cuts.{cut_of, parts, Six, six_of};
+ghost use Rattle.spelling.specs.Cuts.{cut_of, parts, six_of};
 ghost use Rattle.spelling.specs.Fields.{seen};
 
-// The six fields of a line of a policy file.
+// The six fields of a line of a policy file, by the names that the definitions have for them.
 #[derive(Clone, Copy)]
 pub struct Fields<'a> {
     pub kind: &'a [u8],
@@ -17,7 +17,7 @@ pub struct Fields<'a> {
     pub e: &'a [u8],
 }
 
-// How many bytes stand before the first `b`.
+// How many bytes stand before the first `b`, if there is one.
 pub fn position(s: &[u8], b: u8) -> Option<usize>
     ensures value { result ≡ position (λ x. x == b) s.now }
     ensures bound { IfSome result (λ i. i < length s.now) }
@@ -33,7 +33,7 @@ pub fn cut<'a>(s: &'a [u8], b: u8) -> Option<(&'a [u8], &'a [u8])>
     Some((&s[..i], &s[i + 1..]))
 }
 
-// The fields of a line that has exactly five spaces.
+// The fields of a line that has exactly five spaces. By `cut`, since six times `next()?` of one `split` would be no shorter.
 #[tactic(auto, using(crate::proofs::Cuts::six_by_cuts))]
 pub fn split<'a>(s: &'a [u8]) -> Option<Fields<'a>>
     ensures { each seen result ≡ six_of (parts 32 s.now) }

@@ -1,6 +1,6 @@
 // Numbers, line numbers and actions.
 
-ghost use Rattle.std.specs.Prelude.{◌≡◌, ◌≤◌, IfSome};
+ghost use Rattle.std.specs.Prelude.{◌≡◌};
 ghost use Rattle.spelling.specs.Numbers.{is_digit, digits_after, natural_of, at_most, positive, negative, number_of, line_number_of, action_of};
 
 fn is_digit(b: u8) -> bool
@@ -18,6 +18,7 @@ fn digits(s: &[u8], limit: u32) -> Option<u32>
         if !is_digit(*b) {
             return None;
         }
+        // In 64 bits one comparison with the limit is the whole test, and the cast loses nothing; 32-bit steps would need three tests.
         let longer = u64::from(n) * 10 + u64::from(*b - b'0');
         if longer > u64::from(limit) {
             return None;
@@ -63,6 +64,7 @@ pub fn number(s: &[u8]) -> Option<i32>
     }
 }
 
+// A line number is spelled as any number is; a name of its own, as the rules of the file have one.
 pub fn line_number(s: &[u8]) -> Option<i32>
     ensures { result ≡ line_number_of s.now }
 {

@@ -1,17 +1,9 @@
 // Names and texts.
 
 ghost use Rattle.std.specs.Prelude.{◌≡◌};
-ghost use Rattle.std.specs.Str.{bytes_eq};
 ghost use Rattle.spelling.specs.Words.{is_letter, is_word_byte, all_word_bytes, is_word, name_of, is_text, text_of};
 
 use values::{Name, Text};
-
-// In place of `==`, which between bytes and a literal asks for `.as_slice()` after the literal.
-pub fn is(s: &[u8], word: &[u8]) -> bool
-    ensures { result ≡ bytes_eq s.now word.now }
-{
-    s == word
-}
 
 fn is_letter(b: u8) -> bool
     ensures { result ≡ is_letter b }
@@ -55,7 +47,10 @@ pub fn name(s: &[u8]) -> Option<Name>
 fn is_text(s: &[u8]) -> bool
     ensures { result ≡ is_text s.now }
 {
-    is_word(s, false) && !is(s, b"true") && !is(s, b"false")
+    match s {
+        b"true" | b"false" => false,
+        _ => is_word(s, false),
+    }
 }
 
 // A text of at most 16 bytes, other than the words of the two booleans.

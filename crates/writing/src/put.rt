@@ -4,12 +4,12 @@
 ghost use Rattle.std.specs.Prelude.{◌+◌, ◌≤◌, length};
 ghost use Rattle.writing.specs.Put.{Puts};
 
-// Puts `s` from place `at` on, and answers where it ends.
-pub(crate) fn put(out: &mut [u8], at: usize, s: &[u8]) -> usize
-    requires { at + length s.now ≤ length out.old }
-    ensures { Puts out.old at s.now out.new result }
+// Puts `s` from `place` on, and answers where it ends.
+pub(crate) fn put(out: &mut [u8], place: usize, s: &[u8]) -> usize
+    requires { place + length s.now ≤ length out.old }
+    ensures { Puts out.old place s.now out.new result }
 {
-    let end = at + s.len();
-    out[at..end].copy_from_slice(s);
+    let end = place + s.len();
+    out[place..end].copy_from_slice(s);
     end
 }

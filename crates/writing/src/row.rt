@@ -86,10 +86,10 @@ pub(crate) fn put_line(line: &Line, out: &mut [u8], start: usize) -> usize
 {
     let row = row_of(line);
     let words = &row[..];
-    let mut at = put(out, start, words[0].as_bytes());
+    let mut place = put(out, start, words[0].as_bytes());
     for word in &words[1..] {
-        at = put(out, at, b" ");
-        at = put(out, at, word.as_bytes());
+        place = put(out, place, b" ");
+        place = put(out, place, word.as_bytes());
     }
-    put(out, at, b"\n")
+    put(out, place, b"\n")
 }

@@ -1,7 +1,8 @@
 // The fields of a line as short words.
 // Not by Display: what `write!` wrote is known only where it succeeded, and no contract says that it does.
+// Reading and writing have their words each, as the definitions do; that they agree is part of the contract of `write_back`.
 
-ghost use Rattle.std.specs.Prelude.{◌≡◌, ℕ, ◌≤◌, length, codes};
+ghost use Rattle.std.specs.Prelude.{◌≡◌, ◌≤◌, length};
 ghost use Rattle.spelling.specs.Algorithms.{algorithm_word, strategy_word, combining_word};
 ghost use Rattle.policy.specs.Spelt.{truth_word, operator_word, force_word, effect_word, optional};
 
@@ -107,8 +108,8 @@ pub(crate) fn combining_word(c: Combining) -> Word
     ensures { result ≡ combining_word c }
 {
     let mut bytes = [0u8; 24];
-    let name = put(&mut bytes, 0, algorithm_word(c.algorithm));
-    let point = put(&mut bytes, name, b".");
-    let end = put(&mut bytes, point, strategy_word(c.strategy));
+    let after_name = put(&mut bytes, 0, algorithm_word(c.algorithm));
+    let after_point = put(&mut bytes, after_name, b".");
+    let end = put(&mut bytes, after_point, strategy_word(c.strategy));
     word(&bytes[..end])
 }

@@ -28,11 +28,11 @@ fn put_lines(lines: &[Line], out: &mut [u8], start: usize) -> usize
     requires { start + length (rows lines.now) ≤ length out.old }
     ensures { Puts out.old start (rows lines.now) out.new result }
 {
-    let mut at = start;
+    let mut place = start;
     for line in lines {
-        at = put_line(line, out, at);
+        place = put_line(line, out, place);
     }
-    at
+    place
 }
 
 // Writes the policy's file into `out` and answers its length; bytes beyond it stay. Where it does not fit nothing is written.
@@ -44,6 +44,6 @@ pub fn write_back(policy: &Policy, out: &mut [u8]) -> Result<usize, Rejection>
     if HEADER.len() + lines_length(lines) > out.len() {
         return Err(Rejection::of_file(Cause::TooSmall));
     }
-    let at = put(out, 0, HEADER);
-    Ok(put_lines(lines, out, at))
+    let place = put(out, 0, HEADER);
+    Ok(put_lines(lines, out, place))
 }

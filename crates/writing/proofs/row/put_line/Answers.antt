@@ -11,7 +11,7 @@ loop-word-preserved c =
     let f = fields_for c.args.line.now in
     let l = c.loop-word in
     one_more spaced (later c.row_of-row.result) l.word-index c.word-item.result c.loop-word-test.true c.word-item.is f.kind l.invariant
-    (alike (ap spaced c.as_bytes-in-loop-word.ensures.value) (both c.put-at-in-loop-word.ensures c.put-at-in-loop-word-2.ensures))
+    (alike (ap spaced c.as_bytes-in-loop-word.ensures.value) (both c.put-place-in-loop-word.ensures c.put-place-in-loop-word-2.ensures))
 
 pub returns : goal.returns
 returns c =

@@ -6,4 +6,4 @@ use Rattle.writing.proofs.Rows.{spaced}
 use Rattle.writing.proofs.row.put_line.Given as goal
 
 abbrev pub invariant-loop-word : goal.invariant-loop-word
-invariant-loop-word l = Puts l.fn.out l.start ((fields_for l.line).kind ++ flat_map spaced (take l.word-index l.word-items)) l.out l.at
+invariant-loop-word l = Puts l.fn.out l.start ((fields_for l.line).kind ++ flat_map spaced (take l.word-index l.word-items)) l.out l.place

@@ -4,5 +4,5 @@ use Rattle.writing.proofs.word.combining_word.Goals as goal
 
 pub returns : goal.returns
 returns c =
-    c.word.ensures ∙ shown (both c.put-name.ensures (both c.put-point.ensures c.put-end.ensures))
+    c.word.ensures ∙ shown (both c.put-after_name.ensures (both c.put-after_point.ensures c.put-end.ensures))
     ∙ (λ i. c.algorithm_word.ensures.value i ++ 46 ∷ c.strategy_word.ensures.value i)

@@ -6,8 +6,8 @@ use Rattle.writing.proofs.Puts.{room, one_more, alike}
 use Rattle.writing.proofs.Rows.{rows_flat}
 use Rattle.writing.proofs.write.put_lines.Goals as goal
 
-pub put_line-at-requires : goal.put_line-at-requires
-put_line-at-requires c =
+pub put_line-place-requires : goal.put_line-place-requires
+put_line-place-requires c =
     let l = c.loop-line in
     let h = room line_bytes c.args.lines.now l.line-index c.line-item.result c.loop-line-test.true c.line-item.is [] l.invariant in
     omega (arith, h, l.invariant.len, ap length (rows_flat c.args.lines.now), c.requires)
@@ -15,7 +15,7 @@ put_line-at-requires c =
 pub loop-line-preserved : goal.loop-line-preserved
 loop-line-preserved c =
     let l = c.loop-line in
-    one_more line_bytes c.args.lines.now l.line-index c.line-item.result c.loop-line-test.true c.line-item.is [] l.invariant c.put_line-at.ensures
+    one_more line_bytes c.args.lines.now l.line-index c.line-item.result c.loop-line-test.true c.line-item.is [] l.invariant c.put_line-place.ensures
 
 pub returns : goal.returns
 returns c =

@@ -12,5 +12,5 @@ returns-then-lines_length-out-clause-file c = for_file (lines_of c.args.policy.n
 pub returns : goal.returns
 returns c =
     let ls = lines_of c.args.policy.now in
-    let h : Written (spelt ls) c.args.out.now c.put_lines.new.out (Ok c.put_lines.result) = written (alike (ap spelt c.lines-lines.ensures.value) (both c.put-at.ensures c.put_lines.ensures)) in
+    let h : Written (spelt ls) c.args.out.now c.put_lines.new.out (Ok c.put_lines.result) = written (alike (ap spelt c.lines-lines.ensures.value) (both c.put-place.ensures c.put_lines.ensures)) in
     record { lines = h; file = for_file ls c.args.out.now c.put_lines.new.out (Ok c.put_lines.result) h }

@@ -38,7 +38,7 @@ impl Known<'_> {
     }
 
     // Adds the line numbers of a chain of duties, from its first to its last.
-    // A recursion, since each duty names the one before it.
+    // A recursion, since each duty names the one before it; the numbers are written to, so they stand beside the lines that are lent.
     pub(crate) fn add_chain(&self, last: Option<LineNumber>, numbers: &mut Vec<LineNumber>)
         requires within { Within (size self.now) last }
         requires room { Room numbers.old (dues_of nothing (duties_of self.now last)) }

@@ -14,7 +14,7 @@ use combining::Decision;
 use policy::LineNumber;
 
 // A decision, with the duties of the children that have it: of all of them if they are joined, else of the first.
-// The numbers are handed in beside it and are no part of it, since a struct with a `&mut` field and a ghost field is not covered.
+// The numbers are handed in beside it, since this is copied and they are written to.
 // That their spans lie within the line numbers is asked of each call, since the numbers are a value beside this one.
 #[derive(Clone, Copy)]
 pub struct Taken<'a> {

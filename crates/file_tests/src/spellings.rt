@@ -146,7 +146,7 @@ fn misspelt_fields(runtime: HostRuntime) -> Result<(), Fail> {
     check_lines(&runtime, runtime.alloc(), &LINES_MISSPELT, Err(expected))
 }
 
-// Each cell stands between two others.
+// Each cell stands between two others. A function beside the one for lines, since the text of a `format!` is fixed.
 fn check_cells(
     rt: &impl Abort,
     heap: Global,

@@ -15,7 +15,7 @@ pub struct Pair {
 }
 
 // Checks the policy file and then the readings file; the first fault counts.
-// The memory is the caller's, who reserves it once: no function here reserves and checks in one.
+// The memory is the caller's: no function here reserves and checks in one.
 pub fn check_pair(
     room: Room,
     table: TableRoom,

@@ -9,6 +9,7 @@ use refusals::Cause;
 use spelling::number::line_number;
 
 // The lines above the next one, in memory for all that a file may have.
+// That the capacity stays is said by those that add lines, since the public contracts promise that the very capacity stays.
 // Each method that marks says that the lines stay: marks and lines are one value here, as a reader of a line needs both.
 #[derive(Drop)]
 pub(crate) struct Draft {

@@ -16,7 +16,7 @@ pub(crate) fn count_parts(line: &[u8]) -> usize
 }
 
 // Reads the parts of `rest` from `field` on, each with `read`, which also sees the items before it.
-// By recursion, since a `for` over `split` in a generic function gets no proof.
+// By recursion, since a `for` over `split` that needs an invariant gets no proof in a generic function.
 // That the capacity stays is said here and at each caller, since public contracts promise that the very capacity stays.
 pub(crate) fn read_parts<T: Drop, F: Fn(&[u8], &[T]) -> Result<T, Cause>>(
     rest: &[u8],

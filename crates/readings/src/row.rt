@@ -26,7 +26,7 @@ impl Row<'_> {
     }
 }
 
-// The cells from `start` on, at most `count` of them. With `min` and no test, since a row past the last is asked for nowhere.
+// The cells from `start` on, at most `count` of them. By `min`, since the type does not say that the cells are rows times names; `row` has tested the index.
 fn part(cells: &[Value], start: usize, count: usize) -> &[Value]
     ensures { result.now ≡ take count (drop start cells.now) }
 {

@@ -7,7 +7,7 @@ use crate::cause::Cause;
 use std::fmt;
 
 // A fault in a line; field 0 stands for the line as a whole.
-// Numbers and no Options: a report and the definitions count lines and fields from 0, and line 0 is a line of the file.
+// Numbers and no Options: a report and the definitions have a number here, 0 where no field applies, and line 0 is a line of the file.
 #[derive(Clone, Copy, PartialEq, Eq)]
 pub struct LineFault {
     pub cause: Cause,

@@ -36,6 +36,18 @@ pub enum Operator {
 }
 
 impl Operator {
+    pub const ALL: [Operator; 9] = [
+        Operator::And,
+        Operator::Or,
+        Operator::Equal,
+        Operator::In,
+        Operator::Greater,
+        Operator::Add,
+        Operator::Sub,
+        Operator::Mul,
+        Operator::Div,
+    ];
+
     pub fn of_word(word: &[u8]) -> Option<Operator> {
         Some(match word {
             b"and" => Operator::And,
@@ -49,6 +61,20 @@ impl Operator {
             b"div" => Operator::Div,
             _ => return None,
         })
+    }
+
+    pub fn word(self) -> &'static str {
+        match self {
+            Operator::And => "and",
+            Operator::Or => "or",
+            Operator::Equal => "equal",
+            Operator::In => "in",
+            Operator::Greater => "greater",
+            Operator::Add => "add",
+            Operator::Sub => "sub",
+            Operator::Mul => "mul",
+            Operator::Div => "div",
+        }
     }
 }
 
@@ -65,6 +91,17 @@ pub enum Algorithm {
 }
 
 impl Algorithm {
+    pub const ALL: [Algorithm; 8] = [
+        Algorithm::PermitOverrides,
+        Algorithm::DenyOverrides,
+        Algorithm::DenyUnlessPermit,
+        Algorithm::PermitUnlessDeny,
+        Algorithm::FirstApplicable,
+        Algorithm::OneApplicable,
+        Algorithm::WeakConsensus,
+        Algorithm::StrongConsensus,
+    ];
+
     pub fn of_word(word: &[u8]) -> Option<Algorithm> {
         Some(match word {
             b"p-over" => Algorithm::PermitOverrides,
@@ -78,6 +115,19 @@ impl Algorithm {
             _ => return None,
         })
     }
+
+    pub fn word(self) -> &'static str {
+        match self {
+            Algorithm::PermitOverrides => "p-over",
+            Algorithm::DenyOverrides => "d-over",
+            Algorithm::DenyUnlessPermit => "d-unless-p",
+            Algorithm::PermitUnlessDeny => "p-unless-d",
+            Algorithm::FirstApplicable => "first-app",
+            Algorithm::OneApplicable => "one-app",
+            Algorithm::WeakConsensus => "weak-con",
+            Algorithm::StrongConsensus => "strong-con",
+        }
+    }
 }
 
 #[derive(Clone, Copy, Debug, PartialEq, Eq)]
@@ -87,11 +137,20 @@ pub enum Strategy {
 }
 
 impl Strategy {
+    pub const BOTH: [Strategy; 2] = [Strategy::All, Strategy::Greedy];
+
     pub fn of_word(word: &[u8]) -> Option<Strategy> {
         match word {
             b"all" => Some(Strategy::All),
             b"greedy" => Some(Strategy::Greedy),
             _ => None,
+        }
+    }
+
+    pub fn word(self) -> &'static str {
+        match self {
+            Strategy::All => "all",
+            Strategy::Greedy => "greedy",
         }
     }
 }
@@ -153,6 +212,41 @@ impl Line {
             Line::Duty { .. } => Family::Duty,
             Line::Item { .. } => Family::Item,
             Line::Rule { .. } | Line::Set { .. } => Family::Policy,
+        }
+    }
+
+    /// The line before this one in its chain, where there is a chain at all.
+    pub fn earlier(&self) -> Option<LineNumber> {
+        match self {
+            Line::Duty { earlier, .. } | Line::Item { earlier, .. } => *earlier,
+            _ => None,
+        }
+    }
+}
+
+#[cfg(test)]
+mod tests {
+    use super::*;
+
+    #[test]
+    fn words_are_read_as_they_are_written() {
+        for operator in Operator::ALL {
+            assert_eq!(
+                Operator::of_word(operator.word().as_bytes()),
+                Some(operator)
+            );
+        }
+        for algorithm in Algorithm::ALL {
+            assert_eq!(
+                Algorithm::of_word(algorithm.word().as_bytes()),
+                Some(algorithm)
+            );
+        }
+        for strategy in Strategy::BOTH {
+            assert_eq!(
+                Strategy::of_word(strategy.word().as_bytes()),
+                Some(strategy)
+            );
         }
     }
 }

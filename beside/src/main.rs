@@ -1,4 +1,4 @@
-//! The command line: trial cases, their summary, sample policies and a stopwatch.
+//! The command line: trial cases, their summary, the table for a folder, sample policies and two stopwatches.
 
 use std::error::Error;
 use std::hint::black_box;
@@ -8,15 +8,22 @@ use std::process::ExitCode;
 use std::time::Instant;
 use std::{env, fs};
 
+use beside::generate::{self, Case};
+use beside::policy::Policy;
 use beside::summary::Summary;
-use beside::{generate, policy, trial};
+use beside::survey::Survey;
+use beside::{deciding, policy, readings, trial};
 
 type Outcome = Result<(), Box<dyn Error>>;
 
 const USAGE: &str = "usage: beside cases OUTDIR
        beside summary OUTDIR
+       beside trial FOLDER
        beside bench FILE ROUNDS
-       beside policy LINES";
+       beside policy LINES
+       beside decide FILE ROWFILE ROUNDS
+       beside decidepolicy LINES
+       beside deciderow LINES";
 const LEAST_LINES: usize = 3;
 
 fn main() -> ExitCode {
@@ -25,8 +32,12 @@ fn main() -> ExitCode {
     let outcome = match arguments[..] {
         ["cases", folder] => write_cases(Path::new(folder)),
         ["summary", folder] => print_summary(Path::new(folder)),
+        ["trial", folder] => print_trial(Path::new(folder)),
         ["bench", file, rounds] => bench(file, rounds),
         ["policy", lines] => print_policy(lines),
+        ["decide", file, rows, rounds] => decide(file, rows, rounds),
+        ["decidepolicy", lines] => print_decision_policy(lines),
+        ["deciderow", lines] => print_decision_row(lines),
         _ => Err(USAGE.into()),
     };
     match outcome {
@@ -56,6 +67,24 @@ fn write_cases(folder: &Path) -> Outcome {
 fn print_summary(folder: &Path) -> Outcome {
     let answers = fs::read_to_string(folder.join("stdout"))?;
     print!("{}", Summary::of_answers(&answers));
+    let cases = Case::all_unframed(&fs::read(folder.join("stdin"))?).ok_or("stdin is no cases")?;
+    let accepted = |case: &Case| trial::check(&case.policy, &case.readings).ok();
+    let policies: Vec<Policy> = cases
+        .iter()
+        .filter_map(accepted)
+        .map(|pair| pair.0)
+        .collect();
+    print!("{}", Survey::of_policies(&policies));
+    Ok(())
+}
+
+/// What the trial program prints in this folder, where a file that cannot be read counts as empty.
+fn print_trial(folder: &Path) -> Outcome {
+    let bytes = |name: &str| fs::read(folder.join(name)).unwrap_or_default();
+    print!(
+        "{}",
+        trial::table(&bytes("policy.txt"), &bytes("readings.txt"))
+    );
     Ok(())
 }
 
@@ -78,4 +107,43 @@ fn print_policy(lines: &str) -> Outcome {
     }
     io::stdout().write_all(&generate::policy_file(lines))?;
     Ok(())
+}
+
+/// Times the decision about the first row alone, with both files read beforehand.
+fn decide(file: &str, rows: &str, rounds: &str) -> Outcome {
+    let policy = policy::parse(&fs::read(file)?).map_err(|refusal| refusal.to_string())?;
+    let readings = readings::parse(&fs::read(rows)?).map_err(|refusal| refusal.to_string())?;
+    let rounds: u64 = rounds.parse()?;
+    let judgement = deciding::judgements(&policy, &readings).next();
+    let judgement = judgement.ok_or("the readings have no row")?;
+    let start = Instant::now();
+    for _ in 0..rounds {
+        black_box(black_box(&judgement).response());
+    }
+    println!("{} {}", start.elapsed().as_nanos(), policy.lines.len());
+    Ok(())
+}
+
+fn print_decision_policy(lines: &str) -> Outcome {
+    let policy = generate::decision_policy(rounds_in(lines)?);
+    io::stdout().write_all(&policy)?;
+    Ok(())
+}
+
+/// The row is the same at every size, but only for sizes that there is a policy of.
+fn print_decision_row(lines: &str) -> Outcome {
+    rounds_in(lines)?;
+    io::stdout().write_all(&generate::decision_row())?;
+    Ok(())
+}
+
+/// How many rounds of lines make up a policy with this many.
+fn rounds_in(lines: &str) -> Result<usize, Box<dyn Error>> {
+    let lines: usize = lines.parse()?;
+    let round = generate::LINES_OF_A_ROUND;
+    if !lines.is_multiple_of(round) || !(round..=policy::MOST_LINES).contains(&lines) {
+        let most = policy::MOST_LINES;
+        return Err(format!("such a policy has a multiple of {round} lines up to {most}").into());
+    }
+    Ok(lines / round)
 }

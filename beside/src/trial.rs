@@ -1,5 +1,8 @@
 //! Both files together, in the order in which the trial program refuses them.
 
+use std::iter;
+
+use crate::deciding;
 use crate::line::Line;
 use crate::policy::{self, Policy};
 use crate::readings::{self, Readings};
@@ -23,12 +26,43 @@ fn within_limit(file: &[u8]) -> Result<(), Refusal> {
     Ok(())
 }
 
-/// The line that tells what became of a pair of files.
+/// What the trial program prints: a header and each row's decision, or one line that says why not.
+pub fn table(policy: &[u8], readings: &[u8]) -> String {
+    let lines: Vec<String> = match check(policy, readings) {
+        Ok((policy, readings)) => {
+            let header = iter::once("row decision".to_owned());
+            let row = |(place, judgement): (usize, deciding::Judgement)| {
+                format!("{} {}", place + 1, judgement.response().decision)
+            };
+            let rows = deciding::judgements(&policy, &readings).enumerate();
+            header.chain(rows.map(row)).collect()
+        }
+        Err(refusal) => vec![refusal.to_string()],
+    };
+    lines.join("\n") + "\n"
+}
+
+/// What became of a pair of files: one line, and for an accepted pair one more for each row.
 pub fn answer(policy: &[u8], readings: &[u8]) -> String {
     match check(policy, readings) {
-        Ok((policy, readings)) => accepted(&policy, &readings),
+        Ok((policy, readings)) => {
+            let first = iter::once(accepted(&policy, &readings));
+            let lines: Vec<String> = first.chain(decided(&policy, &readings)).collect();
+            lines.join("\n")
+        }
         Err(refusal) => refusal.to_string(),
     }
+}
+
+/// The number of each row, counted from 1, and the response to it.
+fn decided<'a>(
+    policy: &'a Policy,
+    readings: &'a Readings,
+) -> impl Iterator<Item = String> + use<'a> {
+    let row = |(place, judgement): (usize, deciding::Judgement)| {
+        format!("{} {}", place + 1, judgement.response())
+    };
+    deciding::judgements(policy, readings).enumerate().map(row)
 }
 
 fn accepted(policy: &Policy, readings: &Readings) -> String {
@@ -68,8 +102,21 @@ mod tests {
 
     #[test]
     fn the_sample_pair_is_accepted() {
-        assert_eq!(answer(POLICY, READINGS), "accepted 6 2 3 eeeedp tntntm 8");
+        assert_eq!(
+            answer(POLICY, READINGS),
+            "accepted 6 2 3 eeeedp tntntm 8\n1 permit must 1 4\n2 not-app\n3 indet"
+        );
         assert_eq!(answer(POLICY, b"a\n"), "accepted 6 1 0 eeeedp - 0");
+    }
+
+    #[test]
+    fn the_table_of_the_sample_pair() {
+        assert_eq!(
+            table(POLICY, READINGS),
+            "row decision\n1 permit\n2 not-app\n3 indet\n"
+        );
+        assert_eq!(table(POLICY, b"a\n"), "row decision\n");
+        assert_eq!(table(POLICY, b""), "refused 8 1 0 0\n");
     }
 
     #[test]
@@ -77,7 +124,7 @@ mod tests {
         let policy = b"kind a b c d e\nnum -5 - - - -\npermit 1 - - - -\n";
         assert_eq!(
             answer(policy, b"a b\n2,3 x\n-10 4,4\n"),
-            "accepted 2 2 2 ep NtnN -2"
+            "accepted 2 2 2 ep NtnN -2\n1 indet\n2 indet"
         );
     }
 

@@ -52,7 +52,7 @@ fn extra_name(random: &mut Random) -> String {
     words::name(sort, random)
 }
 
-fn push_new(names: &mut Vec<String>, name: String) {
+pub fn push_new(names: &mut Vec<String>, name: String) {
     if !names.contains(&name) {
         names.push(name);
     }

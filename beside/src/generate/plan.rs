@@ -1,4 +1,4 @@
-//! Which cases are made, and how many of each sort.
+//! Which cases about the acceptance of files are made, and how many of each sort.
 
 use super::fields::{self, Fault, Role, KINDS};
 use super::random::Random;
@@ -19,7 +19,8 @@ const ROW_DAMAGE_ROUNDS: usize = 6;
 const BYTES: usize = 160;
 const SEVERAL: usize = 240;
 
-pub fn all_cases() -> Vec<Case> {
+/// All cases about which files are accepted, and why others are not.
+pub fn cases() -> Vec<Case> {
     let mut plan = Plan {
         random: Random::new(SEED),
         cases: Vec::new(),

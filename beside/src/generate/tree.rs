@@ -1,9 +1,9 @@
 //! Grows good policies: trees with an exact number of lines, written out from the leaves up.
 
+use super::nodes::{Nodes, Part};
 use super::random::Random;
-use super::table::{words, Table, Word};
+use super::table::Table;
 use super::words::{self, Sort, SORTS};
-use crate::policy::HEADER;
 
 const ALGORITHMS: [&str; 8] = [
     "p-over",
@@ -26,31 +26,22 @@ const LEAST_SET: usize = 5;
 /// A policy with exactly this many lines after the header; two is the fewest there can be.
 pub fn policy(lines: usize, random: &mut Random) -> Table {
     let mut grower = Grower {
-        nodes: Vec::new(),
+        nodes: Nodes::default(),
         random,
     };
     grower.policy(lines);
-    grower.written()
-}
-
-/// A field of a line: a plain word, or a node that the line names.
-enum Part {
-    Word(String),
-    Node(usize),
+    let scattered = grower.random.chance(40);
+    grower.nodes.written(scattered, grower.random)
 }
 
 struct Grower<'a> {
-    nodes: Vec<Vec<Part>>,
+    nodes: Nodes,
     random: &'a mut Random,
 }
 
 impl Grower<'_> {
     fn add(&mut self, kind: &str, parts: Vec<Part>) -> usize {
-        let mut node = vec![Part::Word(kind.to_owned())];
-        node.extend(parts);
-        node.resize_with(6, || Part::Word("-".to_owned()));
-        self.nodes.push(node);
-        self.nodes.len() - 1
+        self.nodes.add(kind, parts)
     }
 
     fn expression(&mut self, size: usize, sort: Sort) -> usize {
@@ -222,66 +213,6 @@ impl Grower<'_> {
         *rest -= size;
         Part::Node(self.duty(size))
     }
-
-    /// The table, with every node below those that it names.
-    fn written(&mut self) -> Table {
-        let mut numbers = vec![0; self.nodes.len()];
-        let order = self.order();
-        for (place, &node) in order.iter().enumerate() {
-            numbers[node] = place + 1;
-        }
-        let word = |part: &Part| -> Word {
-            match part {
-                Part::Word(word) => word.clone().into_bytes(),
-                Part::Node(node) => numbers[*node].to_string().into_bytes(),
-            }
-        };
-        let header = words(&String::from_utf8_lossy(HEADER));
-        let body = order
-            .iter()
-            .map(|&node| self.nodes[node].iter().map(word).collect());
-        Table {
-            lines: std::iter::once(header).chain(body).collect(),
-        }
-    }
-
-    /// Nodes in an order that puts each after the ones it names; by chance scattered or tidy.
-    fn order(&mut self) -> Vec<usize> {
-        let mut waiting: Vec<usize> = self.nodes.iter().map(|node| named(node).count()).collect();
-        let mut parents = vec![None; self.nodes.len()];
-        for (parent, node) in self.nodes.iter().enumerate() {
-            named(node).for_each(|child| parents[child] = Some(parent));
-        }
-        let mut ready: Vec<usize> = (0..waiting.len())
-            .filter(|&node| waiting[node] == 0)
-            .collect();
-        let scattered = self.random.chance(40);
-        let mut order = Vec::new();
-        while !ready.is_empty() {
-            let last = ready.len() - 1;
-            let place = if scattered {
-                self.random.below(ready.len())
-            } else {
-                last
-            };
-            let node = ready.swap_remove(place);
-            order.push(node);
-            if let Some(parent) = parents[node] {
-                waiting[parent] -= 1;
-                if waiting[parent] == 0 {
-                    ready.push(parent);
-                }
-            }
-        }
-        order
-    }
-}
-
-fn named(node: &[Part]) -> impl Iterator<Item = usize> + '_ {
-    node.iter().filter_map(|part| match part {
-        Part::Node(child) => Some(*child),
-        Part::Word(_) => None,
-    })
 }
 
 #[cfg(test)]

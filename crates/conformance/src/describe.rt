@@ -1,9 +1,11 @@
-// One line that says what was read.
+// A line that says what was read, and a line with the response to each row.
 
+use deciding::{Answer, Evaluator};
 use pair::{Pair, check_pair};
-use policy::{Family, Line, Policy, Room};
+use policy::{Family, Force, Line, Policy, Room};
 use readings::TableRoom;
 use std::alloc::{AllocError, Global};
+use trees::Duty;
 use values::Value;
 use writing::write_back;
 
@@ -77,6 +79,53 @@ fn accepted(heap: Global, pair: &Pair) -> Result<String, AllocError> {
     format!(in heap; "accepted {lines} {names} {rows} {families} {cells} {sum}")
 }
 
+// Adds a duty as ` FORCE ACTION VALUE`.
+fn add_duty(heap: Global, duty: &Duty, line: &mut String) -> Result<(), AllocError> {
+    let force = match duty.force {
+        Force::Must => "must",
+        Force::May => "may",
+    };
+    let action = duty.action;
+    line.push_str(format!(in heap; " {force} {action} ")?.as_str())?;
+    match duty.argument {
+        Value::Bool(truth) => line.push_str(format!(in heap; "{truth}")?.as_str()),
+        Value::Number(x) => line.push_str(format!(in heap; "{x}")?.as_str()),
+        Value::Text(text) => add_bytes(text.as_bytes(), line),
+        _ => line.push('?'),
+    }
+}
+
+fn add_bytes(bytes: &[u8], line: &mut String) -> Result<(), AllocError> {
+    for byte in bytes {
+        line.push(char::from(*byte))?;
+    }
+    Ok(())
+}
+
+// A row's number, decision and duties.
+fn responded(heap: Global, number: usize, answer: &Answer) -> Result<String, AllocError> {
+    let decision = answer.decision();
+    let mut line = format!(in heap; "{number} {decision}")?;
+    for duty in answer.duties() {
+        add_duty(heap, duty, &mut line)?;
+    }
+    Ok(line)
+}
+
+// Adds a line for each row.
+fn add_responses(heap: Global, pair: &Pair, lines: &mut String) -> Result<(), AllocError> {
+    let mut evaluator = Evaluator::new(heap)?;
+    let mut answer = Answer::new(heap)?;
+    for index in 0..pair.readings.row_count() {
+        if let Some(row) = pair.readings.row(index) {
+            evaluator.respond_to_row(&pair.policy, &row, &mut answer);
+            lines.push('\n')?;
+            lines.push_str(responded(heap, index + 1, &answer)?.as_str())?;
+        }
+    }
+    Ok(())
+}
+
 // The answer to a pair of files.
 pub(crate) fn answer(heap: Global, policy: &[u8], readings: &[u8]) -> Result<String, AllocError> {
     let room = Room::new(heap)?;
@@ -84,7 +133,9 @@ pub(crate) fn answer(heap: Global, policy: &[u8], readings: &[u8]) -> Result<Str
     match check_pair(room, table, policy, readings) {
         Ok(pair) => {
             if comes_back(heap, &pair.policy, policy)? {
-                accepted(heap, &pair)
+                let mut lines = accepted(heap, &pair)?;
+                add_responses(heap, &pair, &mut lines)?;
+                Ok(lines)
             } else {
                 String::from_str(heap, "does not come back")
             }

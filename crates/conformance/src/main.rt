@@ -1,4 +1,5 @@
-// Plays cases through the library, one line of answer for each, to be compared with what another evaluator says.
+// Plays cases through the library: for each a line that says what was read, and a line for each row's response,
+// to be compared with what another evaluator says.
 //
 // A case on standard input is a line with the lengths of a policy file and of a readings file, then the bytes of both, then byte 10.
 

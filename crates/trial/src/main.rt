@@ -1,8 +1,9 @@
-// The trial program: checks `policy.txt` and `readings.txt` in its folder and reports what it found.
+// The trial program: decides every row of `readings.txt` by the policy in `policy.txt`, both in its folder.
 
 #![tactic(auto)]
 
-use pair::check_pair;
+use deciding::{Answer, Evaluator};
+use pair::{Pair, check_pair};
 use policy::Room;
 use readings::TableRoom;
 use std::fs;
@@ -13,18 +14,29 @@ fn file_bytes(rt: &HostRuntime, path: &str) -> Vec<u8> {
     fs::read(rt, path).unwrap_or_else(|_| Vec::new(rt.alloc()))
 }
 
+// A header, and a line with each row's number and decision.
+fn print_rows(rt: &HostRuntime, pair: &Pair) -> anyhow::Result<()> {
+    let mut evaluator = Evaluator::new(rt.alloc())?;
+    let mut answer = Answer::new(rt.alloc())?;
+    println!(rt; "row decision")?;
+    for index in 0..pair.readings.row_count() {
+        if let Some(row) = pair.readings.row(index) {
+            evaluator.respond_to_row(&pair.policy, &row, &mut answer);
+            let number = index + 1;
+            let decision = answer.decision();
+            println!(rt; "{number} {decision}")?;
+        }
+    }
+    Ok(())
+}
+
 fn main(rt: HostRuntime) -> anyhow::Result<()> {
     let policy = file_bytes(&rt, "policy.txt");
     let readings = file_bytes(&rt, "readings.txt");
     let room = Room::new(rt.alloc())?;
     let table = TableRoom::new(rt.alloc())?;
     match check_pair(room, table, policy.as_slice(), readings.as_slice()) {
-        Ok(pair) => {
-            let lines = pair.policy.lines().len();
-            let names = pair.readings.names().len();
-            let rows = pair.readings.row_count();
-            println!(rt; "accepted {lines} lines, {names} names, {rows} rows")?;
-        }
+        Ok(pair) => print_rows(&rt, &pair)?,
         Err(rejection) => println!(rt; "{rejection}")?,
     }
     Ok(())

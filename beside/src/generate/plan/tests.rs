@@ -12,12 +12,12 @@ fn answers(cases: &[Case]) -> String {
 
 #[test]
 fn the_same_cases_come_every_time() {
-    assert_eq!(all_cases(), all_cases());
+    assert_eq!(cases(), cases());
 }
 
 #[test]
 fn refusals_of_every_number_are_well_represented() {
-    let summary = Summary::of_answers(&answers(&all_cases()));
+    let summary = Summary::of_answers(&answers(&cases()));
     assert!(summary.cases >= 2_400);
     let percent = 100 * summary.refused / summary.cases;
     assert!((55..70).contains(&percent), "{percent}");
@@ -30,7 +30,7 @@ fn refusals_of_every_number_are_well_represented() {
 
 #[test]
 fn all_cases_stay_small_together() {
-    let bytes: usize = all_cases().iter().map(|case| case.framed().len()).sum();
+    let bytes: usize = cases().iter().map(|case| case.framed().len()).sum();
     assert!(bytes < 2_000_000, "{bytes}");
 }
 
@@ -38,7 +38,7 @@ fn all_cases_stay_small_together() {
 fn good_policies_show_every_kind_and_algorithm() {
     let mut kinds = BTreeSet::new();
     let mut algorithms = BTreeSet::new();
-    for case in all_cases() {
+    for case in cases() {
         if trial::check(&case.policy, &case.readings).is_err() {
             continue;
         }

@@ -116,12 +116,10 @@ fn responded(heap: Global, number: usize, answer: &Answer) -> Result<String, All
 fn add_responses(heap: Global, pair: &Pair, lines: &mut String) -> Result<(), AllocError> {
     let mut evaluator = Evaluator::new(heap)?;
     let mut answer = Answer::new(heap)?;
-    for index in 0..pair.readings.row_count() {
-        if let Some(row) = pair.readings.row(index) {
-            evaluator.respond_to_row(&pair.policy, &row, &mut answer);
-            lines.push('\n')?;
-            lines.push_str(responded(heap, index + 1, &answer)?.as_str())?;
-        }
+    for (number, row) in (1..=pair.readings.row_count()).zip(pair.readings.rows()) {
+        evaluator.respond_to_row(&pair.policy, &row, &mut answer);
+        lines.push('\n')?;
+        lines.push_str(responded(heap, number, &answer)?.as_str())?;
     }
     Ok(())
 }

@@ -3,3 +3,4 @@ pub mod Adding
 pub mod Spans
 pub mod Closing
 pub mod Answering
+pub mod Reading

@@ -1,7 +1,6 @@
 // A policy's answer to readings.
 
-ghost use Rattle.std.specs.Prelude.{◌≡◌, ◌≤◌, [], length, IfOk, vec_capacity};
-ghost use Rattle.values.specs.declared.value.Value.TheVariants.{Missing as missing};
+ghost use Rattle.std.specs.Prelude.{◌≡◌, ◌≤◌, [], length, IfOk, vec_len};
 ghost use Rattle.policy.specs.Accepted.{lines_of};
 ghost use Rattle.readings.specs.Rows.{map_in};
 ghost use Rattle.combining.specs.Fewer.{Fewer};
@@ -9,7 +8,7 @@ ghost use Rattle.trees.specs.Expressions.{Map};
 ghost use Rattle.trees.specs.Policies.{respond as respond_of};
 ghost use Rattle.trees.specs.Parts.{policy_of};
 ghost use Rattle.trees.specs.AllVisited.{all_visited};
-ghost use Rattle.trees.specs.Known.{Reads, wanted, known_policy, nothing};
+ghost use Rattle.trees.specs.Known.{Reads, known_policy, nothing};
 ghost use Rattle.deciding.specs.Answer.{response_of, answer_places, places, Enough};
 
 use crate::evaluator::Evaluator;
@@ -48,25 +47,17 @@ impl Answer {
     }
 }
 
-// What a line reads in a row: the value of its name; a line of another kind reads nothing.
-fn read_line(line: Line, row: &Row) -> Value
-    ensures { result ≡ wanted (map_in row.now) line missing }
-{
-    match line {
-        Line::Attribute(name) => row.look_up(name.as_bytes()),
-        _ => Value::Missing,
-    }
-}
-
-// Looks up every attr line in a row.
+// Puts what each attr line reads in a row at that line's place.
 fn read_row(lines: &[Line], row: &Row, readings: &mut Vec<Value>)
-    requires { length lines.now ≤ vec_capacity readings.old }
+    requires { length lines.now ≤ vec_len readings.old }
     ensures reads { Reads lines.now readings.new.items (map_in row.now) }
-    ensures cap { vec_capacity readings.new ≡ vec_capacity readings.old }
+    ensures len { vec_len readings.new ≡ vec_len readings.old }
 {
-    readings.clear();
-    for line in lines {
-        readings.push_reserved(read_line(*line, row));
+    // By index: a reading is found by its line's place, and no value is copied for a line of another kind.
+    for (place, line) in lines.iter().enumerate() {
+        if let Line::Attribute(name) = line {
+            readings[place] = row.look_up(name.as_bytes());
+        }
     }
 }
 
@@ -76,7 +67,7 @@ impl Evaluator {
         ensures { IfOk result (λ e. Enough (places e)) }
     {
         let memory = Memory::new(heap)?;
-        let readings = Vec::with_capacity(heap, 256)?;
+        let readings = Vec::from_elem(heap, Value::Missing, 256)?;
         Ok(Evaluator { memory, readings })
     }
 

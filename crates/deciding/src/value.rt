@@ -41,8 +41,10 @@ impl Known<'_> {
         requires { 0 < number }
         ensures { result ≡ read_at self.now.readings.now number }
     {
-        let reading = self.readings.get(usize::from(number) - 1);
-        reading.copied().unwrap_or(Value::Missing)
+        match self.readings.get(usize::from(number) - 1) {
+            Some(reading) => *reading,
+            None => Value::Missing,
+        }
     }
 
     // The value of the expression at line `number`.

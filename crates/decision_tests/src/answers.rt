@@ -53,17 +53,34 @@ const FIRST_PERMIT: &[u8] = b"kind a b c d e\n\
       must 3 12 - - -\n\
       set p-over.greedy 11 10 13 -\n";
 
-// The rows' decisions and their duties' actions, a space before each.
-fn told(heap: Global, pair: &Pair) -> Result<String, Fail> {
-    let mut evaluator = Evaluator::new(heap)?;
-    let mut answer = Answer::new(heap)?;
-    let mut text = String::new(heap);
-    let rows = (0..pair.readings.row_count()).filter_map(|index| pair.readings.row(index));
-    for row in rows {
-        evaluator.respond_to_row(&pair.policy, &row, &mut answer);
-        tell(heap, &answer, &mut text)?;
+// Each permits where its first line is true; they read different names.
+const X_PERMITS: &[u8] = b"kind a b c d e\nattr x - - - -\npermit 1 - - - -\n";
+
+const Y_PERMITS: &[u8] = b"kind a b c d e\nattr y - - - -\npermit 1 - - - -\n";
+
+// The memory that answers are worked in.
+#[derive(Drop)]
+struct Deciding {
+    evaluator: Evaluator,
+    answer: Answer,
+}
+
+impl Deciding {
+    fn new(heap: Global) -> Result<Deciding, Fail> {
+        let evaluator = Evaluator::new(heap)?;
+        let answer = Answer::new(heap)?;
+        Ok(Deciding { evaluator, answer })
     }
-    Ok(text)
+
+    // Adds the rows' decisions and their duties' actions, a space before each.
+    fn tell(&mut self, heap: Global, pair: &Pair, text: &mut String) -> Result<(), Fail> {
+        for row in pair.readings.rows() {
+            self.evaluator
+                .respond_to_row(&pair.policy, &row, &mut self.answer);
+            tell(heap, &self.answer, text)?;
+        }
+        Ok(())
+    }
 }
 
 fn tell(heap: Global, answer: &Answer, text: &mut String) -> Result<(), Fail> {
@@ -76,6 +93,15 @@ fn tell(heap: Global, answer: &Answer, text: &mut String) -> Result<(), Fail> {
     Ok(())
 }
 
+fn accepted(heap: Global, policy: &[u8], readings: &[u8]) -> Result<Pair, Fail> {
+    let room = Room::new(heap)?;
+    let table = TableRoom::new(heap)?;
+    match check_pair(room, table, policy, readings) {
+        Ok(pair) => Ok(pair),
+        Err(_) => Err(Fail::new("the pair was not accepted")),
+    }
+}
+
 fn check_told(
     rt: &impl Abort,
     heap: Global,
@@ -83,16 +109,11 @@ fn check_told(
     readings: &[u8],
     expected: &str,
 ) -> Result<(), Fail> {
-    let room = Room::new(heap)?;
-    let table = TableRoom::new(heap)?;
-    match check_pair(room, table, policy, readings) {
-        Ok(pair) => {
-            let text = told(heap, &pair)?;
-            assert!(rt; text.as_str() == expected);
-            Ok(())
-        }
-        Err(_) => Err(Fail::new("the pair was not accepted")),
-    }
+    let pair = accepted(heap, policy, readings)?;
+    let mut text = String::new(heap);
+    Deciding::new(heap)?.tell(heap, &pair, &mut text)?;
+    assert!(rt; text.as_str() == expected);
+    Ok(())
 }
 
 #[test]
@@ -110,4 +131,17 @@ fn example_pair(rt: HostRuntime) -> Result<(), Fail> {
 fn all_and_greedy(rt: HostRuntime) -> Result<(), Fail> {
     check_told(&rt, rt.alloc(), TWO_PERMITS, b"x\n-\n", " permit 1 2 3")?;
     check_told(&rt, rt.alloc(), FIRST_PERMIT, b"x\n-\n", " permit 1 3")
+}
+
+#[test]
+fn nothing_is_left_of_an_earlier_policy(rt: HostRuntime) -> Result<(), Fail> {
+    let heap = rt.alloc();
+    let mut deciding = Deciding::new(heap)?;
+    let mut text = String::new(heap);
+    for policy in [X_PERMITS, Y_PERMITS, X_PERMITS] {
+        let pair = accepted(heap, policy, b"x\ntrue\n")?;
+        deciding.tell(heap, &pair, &mut text)?;
+    }
+    assert!(rt; text.as_str() == " permit not-app permit");
+    Ok(())
 }

@@ -1,3 +1,4 @@
 pub mod Parts
 pub mod Rows
 pub mod OneRow
+pub mod Left

@@ -1,5 +1,5 @@
 -- Where the cells of one row lie, and the names and cells that are left of it.
-use Rattle.std.proofs.Common.{◌≡◌, ℕ, zero, suc, ◌+◌, ◌*◌, ◌<◌, ◌≤◌, min, Bool, true, false, cond, List, [], ◌∷◌, length, get_or, take, drop, Some, None, Option, MatchOption, Bor, sym, refl, ap, ◌∙◌, inl, inr, suc-mul, zero-mul, arith}
+use Rattle.std.proofs.Common.{◌≡◌, ℕ, zero, suc, ◌+◌, ◌*◌, ◌<◌, ◌≤◌, min, Bool, true, false, cond, List, [], ◌∷◌, length, get_or, take, drop, Some, None, Option, Bor, sym, refl, ap, ◌∙◌, inl, inr, suc-mul, zero-mul, arith}
 use Rattle.std.proofs.lemmas.List.{drop_all, drop-drop}
 use Rattle.std.proofs.lemmas.Bool.{cases_lt}
 use Rattle.std.specs.List.{find, zip}
@@ -8,7 +8,6 @@ use Rattle.std.specs.Str.{bytes_eq}
 use Rattle.values.specs.declared.value.Value.{Value}
 use Rattle.values.specs.declared.value.Value.TheVariants.{Missing as missing}
 use Rattle.values.specs.Short.{Name}
-use Rattle.values.specs.declared.value.Value.TheVariants as kinds
 use Rattle.readings.specs.Outcome.{rows_in, names_in}
 use Rattle.readings.specs.Rows.{row_map, row_vals, map_in, map_at, RowIs}
 use Rattle.readings.specs.declared.row.Row.{Row}
@@ -48,9 +47,17 @@ row_found (n ∷ names) [] x = refl
 row_found (n ∷ names) (v ∷ cells) x =
     first_or_later x (n, v) (find (is_named x) (zip names cells)) (bytes_eq n x) ∙ ap (cond (bytes_eq n x) v) (row_found names cells x)
 
-pub told : (r : Option (Bor Name × Bor Value)) (v : Value) → MatchOption r (v ≡ kinds.Missing) (λ p. v ≡ p.1.now) → v ≡ option_map_or (λ (p : Name × Value). p.1) (option_map (λ (p : Bor Name × Bor Value). (p.0.now, p.1.now)) r) missing
-told None v h = h
-told (Some p) v h = h
+-- what was found in the row tells it
+abbrev pub told : Option (Bor Name × Bor Value) → Value
+told r = option_map_or (λ (p : Bor Name × Bor Value). p.1.now) r missing
+
+told-found : (r : Option (Bor Name × Bor Value)) → told r ≡ option_map_or (λ (p : Name × Value). p.1) (option_map (λ (p : Bor Name × Bor Value). (p.0.now, p.1.now)) r) missing
+told-found None = refl
+told-found (Some p) = refl
+
+pub told_row : (names : List Name) (cells : List Value) (x : List ℕ) (r : Option (Bor Name × Bor Value))
+    → option_map (λ (p : Bor Name × Bor Value). (p.0.now, p.1.now)) r ≡ find (is_named x) (zip names cells) → told r ≡ row_map names cells x
+told_row names cells x r e = told-found r ∙ ap (λ o. option_map_or (λ (p : Name × Value). p.1) o missing) e ∙ row_found names cells x
 
 -- what a row has for a name is what the readings have there
 pub row-map : (readings : Readings) (index : ℕ) (row : Row) → RowIs readings index (Some row) → (x : List ℕ) → map_in row x ≡ map_at readings index x

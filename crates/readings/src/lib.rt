@@ -4,6 +4,7 @@
 
 mod cells;
 mod check;
+pub mod iter;
 mod line;
 mod names;
 mod read;

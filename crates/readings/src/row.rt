@@ -18,11 +18,11 @@ impl Row<'_> {
     pub fn look_up(&self, name: &[u8]) -> Value
         ensures { result ≡ map_in self.now name.now }
     {
-        self.names
-            .iter()
-            .zip(self.cells)
-            .find(|(x, _)| x.as_bytes() == name)
-            .map_or(Value::Missing, |(_, cell)| *cell)
+        let mut pairs = self.names.iter().zip(self.cells);
+        match pairs.find(|(x, _)| x.as_bytes() == name) {
+            Some((_, cell)) => *cell,
+            None => Value::Missing,
+        }
     }
 }
 

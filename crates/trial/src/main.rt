@@ -19,13 +19,10 @@ fn print_rows(rt: &HostRuntime, pair: &Pair) -> anyhow::Result<()> {
     let mut evaluator = Evaluator::new(rt.alloc())?;
     let mut answer = Answer::new(rt.alloc())?;
     println!(rt; "row decision")?;
-    for index in 0..pair.readings.row_count() {
-        if let Some(row) = pair.readings.row(index) {
-            evaluator.respond_to_row(&pair.policy, &row, &mut answer);
-            let number = index + 1;
-            let decision = answer.decision();
-            println!(rt; "{number} {decision}")?;
-        }
+    for (number, row) in (1..=pair.readings.row_count()).zip(pair.readings.rows()) {
+        evaluator.respond_to_row(&pair.policy, &row, &mut answer);
+        let decision = answer.decision();
+        println!(rt; "{number} {decision}")?;
     }
     Ok(())
 }

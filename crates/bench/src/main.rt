@@ -1,6 +1,6 @@
 // A stopwatch. `bench check FILE ROUNDS` times the check of a policy file, and prints the nanoseconds of all rounds
 // and the file's length. `bench decide FILE READINGS ROUNDS` times the answer to the first row, and prints the
-// nanoseconds and the number of policy lines. Without arguments it does nothing.
+// nanoseconds and the number of policy lines. With fewer arguments than that it does nothing.
 
 #![tactic(auto)]
 

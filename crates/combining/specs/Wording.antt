@@ -14,16 +14,16 @@ pub record Wording : Type 0 where
   pub is_final : Decision → Bool
   pub joins : Bool
 
--- permit or deny if any child gives it, else not-app
+-- permit where some child permits, or else deny where some child denies; not-app where neither does
 abbrev pub given : List Decision → Decision
 given ds = cond (list_any is_permit ds) Permit (cond (list_any is_deny ds) Deny NotApplicable)
 
--- the first that isn't not-app, else not-app
+-- what the earliest child that applies decides
 abbrev pub first_applicable : List Decision → Decision
 first_applicable [] = NotApplicable
 first_applicable (d ∷ ds) = cond (is_not_applicable d) (first_applicable ds) d
 
--- the decision that all share, else indet
+-- what every child says, where all say the same
 abbrev pub shared : List Decision → Decision
 shared ds =
     cond (list_all is_permit ds) Permit

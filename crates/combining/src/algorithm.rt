@@ -26,7 +26,7 @@ pub trait CombiningAlgorithm {
     fn decision(&self, state: Self::State) -> Decision
         ensures { (ds : List Decision) → reached self.now state ds → result ≡ (wording self.now).decision ds };
 
-    // Whether the duties of all children with the decision are joined, or only those of the first one taken.
+    // Whether the duties of all children with the decision are joined, or only the first such child's are taken.
     fn joins(&self) -> bool
         ensures { result ≡ (wording self.now).joins };
 

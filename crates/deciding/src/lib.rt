@@ -1,4 +1,4 @@
-// Deciding: a policy's answer, worked line by line from the top.
+// Deciding: a policy's answer, found for one line after another, the uppermost first.
 // That a capacity stays is said at each function that takes a Vec, since public contracts promise that the very capacity stays.
 
 #![tactic(auto)]

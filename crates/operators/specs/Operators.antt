@@ -5,14 +5,14 @@ use Rattle.values.specs.declared.value.Value.{Value}
 use Rattle.values.specs.declared.value.Value.TheVariants.{Missing as missing, Error as error, Bool as boolean, Number as number, Text as text, Numbers as numbers, Texts as texts}
 use Rattle.operators.specs.Classes.{is_missing, is_error, is_true, is_false, on_boolean, on_number, on_text, on_numbers, on_texts}
 
--- false if either side is false, else true if both are true, else missing if only missing stands in the way, else error
+-- one false side decides; two true ones give true; missing beside true or missing gives missing; the rest is error
 abbrev pub and_of : Value → Value → Value
 and_of a b =
     cond (is_false a || is_false b) (boolean false)
     (cond (is_true a && is_true b) (boolean true)
     (cond ((is_true a || is_missing a) && (is_true b || is_missing b)) missing error))
 
--- the same with true and false exchanged
+-- as `and_of`, with the two booleans in each other's place
 abbrev pub or_of : Value → Value → Value
 or_of a b =
     cond (is_true a || is_true b) (boolean true)
@@ -23,7 +23,7 @@ or_of a b =
 abbrev pub not_of : Value → Value
 not_of a = cond (is_missing a) missing (on_boolean a (λ b. boolean (not b)))
 
--- error on either side gives error, else missing on either side gives missing, else v
+-- an error on one side goes before missing on the other, and both before v
 abbrev pub strict : Value → Value → Value → Value
 strict a b v = cond (is_error a || is_error b) error (cond (is_missing a || is_missing b) missing v)
 

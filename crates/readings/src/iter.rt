@@ -7,7 +7,7 @@ ghost use Rattle.readings.specs.Rows.{row_seen, all_rows, rows_left};
 use crate::row::Row;
 use crate::table::Readings;
 
-// The rows from number `next` on.
+// The rows from number `next` on, counted from 0.
 #[derive(Clone, Copy)]
 pub struct Rows<'a> {
     readings: &'a Readings,

@@ -14,7 +14,7 @@ pub record StaysFinal (w : Wording) (r s : Response Duty) : Type 0 where
   pub decision : s.decision ≡ r.decision
   pub duties : Begins r.duties s.duties
 
--- after a final response any further child gives a final one, with the same decision, its duties beginning with the earlier ones;
+-- a further child leaves a final response final and its decision alone, and can only add duties at its end;
 -- this holds of every algorithm whose final decisions stay
 abbrev pub FinalResponsesStay : Type 0
 FinalResponsesStay = (w : Wording) → FinalStays w → (rs : List (Response Duty)) (q : Response Duty) → w.is_final (answer_on w rs).decision ≡ true → StaysFinal w (answer_on w rs) (answer_on w (rs ++ q ∷ []))

@@ -32,7 +32,7 @@ decision_for effect.Deny = Deny
 abbrev pub bare : Decision → Response Duty
 bare d = record { decision = d; duties = [] }
 
--- a policy whose target is false or missing is not-app, with any other target but true it is indet
+-- r where the target is true; a false or missing target makes the policy not-app, and every other value makes it indet
 abbrev pub on_target : Value → Response Duty → Response Duty
 on_target v r = cond (is_true v) r (cond (is_false v || is_missing v) (bare NotApplicable) (bare Indeterminate))
 
@@ -40,7 +40,7 @@ on_target v r = cond (is_true v) r (cond (is_false v || is_missing v) (bare NotA
 abbrev pub appended : Map → Duties → Response Duty → Response Duty
 appended m ds r = cond (all_fulfilled m ds) (record { decision = r.decision; duties = r.duties ++ dues_of m ds }) (bare Indeterminate)
 
--- permit and deny get the duties on permit and on deny, not-app and indet carry none
+-- a set that permits or denies appends its duties for that; the other two decisions have no duties
 abbrev pub closed : Map → Duties → Duties → Decision → Response Duty → Response Duty
 closed m onPermit onDeny Permit r = appended m onPermit r
 closed m onPermit onDeny Deny r = appended m onDeny r

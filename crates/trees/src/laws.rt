@@ -8,7 +8,7 @@ pub fn greedy_keeps_decisions()
     ensures { GreedyOnlyOmitsDuties }
 {}
 
-// After a final response of a set any further child gives a final one with the same decision, its duties beginning with the earlier ones.
+// A further child leaves a set's final response final and its decision alone, and can only add duties at its end.
 pub fn final_responses_stay()
     ensures { FinalResponsesStay }
 {}

@@ -14,7 +14,7 @@ fn file_bytes(rt: &HostRuntime, path: &str) -> Vec<u8> {
     fs::read(rt, path).unwrap_or_else(|_| Vec::new(rt.alloc()))
 }
 
-// A header, and a line with each row's number and decision.
+// The table: the names of its columns, and a line for each row.
 fn print_rows(rt: &HostRuntime, pair: &Pair) -> anyhow::Result<()> {
     let mut evaluator = Evaluator::new(rt.alloc())?;
     let mut answer = Answer::new(rt.alloc())?;

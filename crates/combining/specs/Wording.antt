@@ -18,12 +18,12 @@ pub record Wording : Type 0 where
 abbrev pub given : List Decision → Decision
 given ds = cond (list_any is_permit ds) Permit (cond (list_any is_deny ds) Deny NotApplicable)
 
--- what the earliest child that applies decides
+-- what the earliest child that applies decides; not-app where none applies
 abbrev pub first_applicable : List Decision → Decision
 first_applicable [] = NotApplicable
 first_applicable (d ∷ ds) = cond (is_not_applicable d) (first_applicable ds) d
 
--- what every child says, where all say the same
+-- what every child says, where all say the same; indet where they differ
 abbrev pub shared : List Decision → Decision
 shared ds =
     cond (list_all is_permit ds) Permit

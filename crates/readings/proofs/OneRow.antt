@@ -1,5 +1,5 @@
 -- Where the cells of one row lie, and the names and cells that are left of it.
-use Rattle.std.proofs.Common.{◌≡◌, ℕ, zero, suc, ◌+◌, ◌*◌, ◌<◌, ◌≤◌, min, Bool, true, false, cond, List, [], ◌∷◌, length, get_or, take, drop, Some, None, Option, Bor, sym, refl, ap, ◌∙◌, inl, inr, suc-mul, zero-mul, arith}
+use Rattle.std.proofs.Common.{◌≡◌, ℕ, zero, suc, ◌+◌, ◌*◌, ◌<◌, ◌≤◌, min, Bool, true, false, cond, List, [], ◌∷◌, length, get_or, take, drop, Some, Option, Bor, sym, refl, ap, ◌∙◌, inl, inr, suc-mul, zero-mul, arith}
 use Rattle.std.proofs.lemmas.List.{drop_all, drop-drop}
 use Rattle.std.proofs.lemmas.Bool.{cases_lt}
 use Rattle.std.specs.List.{find, zip}
@@ -36,28 +36,29 @@ row-cells width n i top start cells row l h s r =
 abbrev pub is_named : List ℕ → Name × Value → Bool
 is_named x p = bytes_eq p.0 x
 
-first_or_later : (x : List ℕ) (p : Name × Value) (o : Option (Name × Value)) (b : Bool) → option_map_or (λ q. q.1) (cond b (Some p) o) missing ≡ cond b p.1 (option_map_or (λ q. q.1) o missing)
-first_or_later x p o true = refl
-first_or_later x p o false = refl
+-- the value of what was found, missing where nothing was
+abbrev value_in : Option (Name × Value) → Value
+value_in o = option_map_or (λ p. p.1) o missing
+
+first_or_later : (p : Name × Value) (o : Option (Name × Value)) (b : Bool) → value_in (cond b (Some p) o) ≡ cond b p.1 (value_in o)
+first_or_later p o true = refl
+first_or_later p o false = refl
 
 -- the first that has it tells what the row has for it
-pub row_found : (names : List Name) (cells : List Value) (x : List ℕ) → option_map_or (λ p. p.1) (find (is_named x) (zip names cells)) missing ≡ row_map names cells x
+row_found : (names : List Name) (cells : List Value) (x : List ℕ) → value_in (find (is_named x) (zip names cells)) ≡ row_map names cells x
 row_found [] cells x = refl
 row_found (n ∷ names) [] x = refl
-row_found (n ∷ names) (v ∷ cells) x =
-    first_or_later x (n, v) (find (is_named x) (zip names cells)) (bytes_eq n x) ∙ ap (cond (bytes_eq n x) v) (row_found names cells x)
+row_found (n ∷ names) (v ∷ cells) x = first_or_later (n, v) (find (is_named x) (zip names cells)) (bytes_eq n x) ∙ ap (cond (bytes_eq n x) v) (row_found names cells x)
 
--- what was found in the row tells it
+-- what is found is a pair of references
+abbrev pub referred : Bor Name × Bor Value → Name × Value
+referred p = (p.0.now, p.1.now)
+
 abbrev pub told : Option (Bor Name × Bor Value) → Value
-told r = option_map_or (λ (p : Bor Name × Bor Value). p.1.now) r missing
+told r = value_in (option_map referred r)
 
-told-found : (r : Option (Bor Name × Bor Value)) → told r ≡ option_map_or (λ (p : Name × Value). p.1) (option_map (λ (p : Bor Name × Bor Value). (p.0.now, p.1.now)) r) missing
-told-found None = refl
-told-found (Some p) = refl
-
-pub told_row : (names : List Name) (cells : List Value) (x : List ℕ) (r : Option (Bor Name × Bor Value))
-    → option_map (λ (p : Bor Name × Bor Value). (p.0.now, p.1.now)) r ≡ find (is_named x) (zip names cells) → told r ≡ row_map names cells x
-told_row names cells x r e = told-found r ∙ ap (λ o. option_map_or (λ (p : Name × Value). p.1) o missing) e ∙ row_found names cells x
+pub told_row : (names : List Name) (cells : List Value) (x : List ℕ) (r : Option (Bor Name × Bor Value)) → option_map referred r ≡ find (is_named x) (zip names cells) → told r ≡ row_map names cells x
+told_row names cells x r e = ap value_in e ∙ row_found names cells x
 
 -- what a row has for a name is what the readings have there
 pub row-map : (readings : Readings) (index : ℕ) (row : Row) → RowIs readings index (Some row) → (x : List ℕ) → map_in row x ≡ map_at readings index x

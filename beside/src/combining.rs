@@ -25,6 +25,11 @@ impl Decision {
             Indeterminate => "indet",
         }
     }
+
+    pub fn of_word(word: &str) -> Option<Decision> {
+        let mut all = Decision::ALL.into_iter();
+        all.find(|decision| decision.word() == word)
+    }
 }
 
 impl fmt::Display for Decision {

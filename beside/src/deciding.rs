@@ -29,6 +29,16 @@ impl<'a> Argument<'a> {
     }
 }
 
+impl From<Argument<'_>> for Value {
+    fn from(argument: Argument<'_>) -> Self {
+        match argument {
+            Argument::Boolean(boolean) => Value::Boolean(boolean),
+            Argument::Number(number) => Value::Number(number),
+            Argument::Text(text) => Value::Text(text.to_owned()),
+        }
+    }
+}
+
 impl fmt::Display for Argument<'_> {
     fn fmt(&self, out: &mut fmt::Formatter<'_>) -> fmt::Result {
         match self {
@@ -44,6 +54,13 @@ pub struct Duty<'a> {
     pub force: Force,
     pub action: u8,
     pub argument: Argument<'a>,
+}
+
+impl fmt::Display for Duty<'_> {
+    fn fmt(&self, out: &mut fmt::Formatter<'_>) -> fmt::Result {
+        let (force, action) = (self.force.word(), self.action);
+        write!(out, "{force} {action} {}", self.argument)
+    }
 }
 
 /// A decision with the duties it carries, which only permit and deny ever do.
@@ -65,14 +82,9 @@ impl Response<'_> {
 impl fmt::Display for Response<'_> {
     fn fmt(&self, out: &mut fmt::Formatter<'_>) -> fmt::Result {
         write!(out, "{}", self.decision)?;
-        for duty in &self.duties {
-            let force = match duty.force {
-                Force::Must => "must",
-                Force::May => "may",
-            };
-            write!(out, " {force} {} {}", duty.action, duty.argument)?;
-        }
-        Ok(())
+        self.duties
+            .iter()
+            .try_for_each(|duty| write!(out, " {duty}"))
     }
 }
 

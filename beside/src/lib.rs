@@ -1,5 +1,5 @@
-//! A second, independent reading of the two files of the trial program, and a second,
-//! independent decision about them.
+//! A second, independent reading of the two files of the trial program, a second,
+//! independent decision about them, and a second, independent enforcement of it.
 //!
 //! It shares no code with the gate it is compared with, so that a slip in
 //! one of them shows up as a disagreement.
@@ -8,12 +8,16 @@
 
 pub mod combining;
 pub mod deciding;
+pub mod devices;
+pub mod enforcement;
 pub mod generate;
 pub mod line;
 pub mod operators;
 pub mod policy;
 pub mod readings;
 pub mod refusal;
+pub mod services;
+pub mod sources;
 pub mod spelling;
 pub mod summary;
 pub mod survey;

@@ -167,6 +167,21 @@ pub enum Force {
     May,
 }
 
+impl Force {
+    pub const BOTH: [Force; 2] = [Force::Must, Force::May];
+
+    pub fn of_word(word: &str) -> Option<Force> {
+        Force::BOTH.into_iter().find(|force| force.word() == word)
+    }
+
+    pub fn word(self) -> &'static str {
+        match self {
+            Force::Must => "must",
+            Force::May => "may",
+        }
+    }
+}
+
 #[derive(Clone, Debug, PartialEq, Eq)]
 pub enum Line {
     Attr(String),
@@ -247,6 +262,9 @@ mod tests {
                 Strategy::of_word(strategy.word().as_bytes()),
                 Some(strategy)
             );
+        }
+        for force in Force::BOTH {
+            assert_eq!(Force::of_word(force.word()), Some(force));
         }
     }
 }

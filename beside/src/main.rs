@@ -1,27 +1,34 @@
-//! The command line: trial cases, their summary, the table for a folder, sample policies and two stopwatches.
+//! The command line: the cases and their summary, the table for a folder, sample policies and three stopwatches.
 
 use std::error::Error;
 use std::hint::black_box;
 use std::io::{self, Write};
+use std::num::TryFromIntError;
 use std::path::Path;
 use std::process::ExitCode;
 use std::time::Instant;
 use std::{env, fs};
 
+use beside::combining::Decision;
+use beside::enforcement::{enforce, Bias};
 use beside::generate::{self, Case};
+use beside::line::Force;
 use beside::policy::Policy;
+use beside::services::{Duty, Journal, Switchboard, ValveBank};
 use beside::summary::Summary;
 use beside::survey::Survey;
-use beside::{deciding, policy, readings, trial};
+use beside::value::Value;
+use beside::{deciding, devices, policy, readings, trial};
 
 type Outcome = Result<(), Box<dyn Error>>;
 
 const USAGE: &str = "usage: beside cases OUTDIR
-       beside summary OUTDIR
+       beside summary
        beside trial FOLDER
        beside bench FILE ROUNDS
        beside policy LINES
        beside decide FILE ROWFILE ROUNDS
+       beside enforce DUTIES ROUNDS
        beside decidepolicy LINES
        beside deciderow LINES";
 const LEAST_LINES: usize = 3;
@@ -31,11 +38,12 @@ fn main() -> ExitCode {
     let arguments: Vec<&str> = arguments.iter().map(String::as_str).collect();
     let outcome = match arguments[..] {
         ["cases", folder] => write_cases(Path::new(folder)),
-        ["summary", folder] => print_summary(Path::new(folder)),
+        ["summary"] => print_summary(),
         ["trial", folder] => print_trial(Path::new(folder)),
         ["bench", file, rounds] => bench(file, rounds),
         ["policy", lines] => print_policy(lines),
         ["decide", file, rows, rounds] => decide(file, rows, rounds),
+        ["enforce", duties, rounds] => time_enforcement(duties, rounds),
         ["decidepolicy", lines] => print_decision_policy(lines),
         ["deciderow", lines] => print_decision_row(lines),
         _ => Err(USAGE.into()),
@@ -49,14 +57,21 @@ fn main() -> ExitCode {
     }
 }
 
+/// The cases of two files each, and then those for devices.
 fn write_cases(folder: &Path) -> Outcome {
-    let cases = generate::all_cases();
     let mut input = Vec::new();
     let mut output = String::new();
-    for case in &cases {
+    for case in generate::all_cases() {
         input.extend(case.framed());
         output.push_str(&trial::answer(&case.policy, &case.readings));
         output.push('\n');
+    }
+    for case in generate::device_cases() {
+        input.extend(case.framed().into_bytes());
+        for line in devices::answer(&case.lines).ok_or("a case is misspelt")? {
+            output.push_str(&line);
+            output.push('\n');
+        }
     }
     fs::create_dir_all(folder)?;
     fs::write(folder.join("stdin"), input)?;
@@ -64,10 +79,12 @@ fn write_cases(folder: &Path) -> Outcome {
     Ok(())
 }
 
-fn print_summary(folder: &Path) -> Outcome {
-    let answers = fs::read_to_string(folder.join("stdout"))?;
+/// What the cases of two files each come to.
+fn print_summary() -> Outcome {
+    let cases = generate::all_cases();
+    let answer = |case: &Case| trial::answer(&case.policy, &case.readings) + "\n";
+    let answers: String = cases.iter().map(answer).collect();
     print!("{}", Summary::of_answers(&answers));
-    let cases = Case::all_unframed(&fs::read(folder.join("stdin"))?).ok_or("stdin is no cases")?;
     let accepted = |case: &Case| trial::check(&case.policy, &case.readings).ok();
     let policies: Vec<Policy> = cases
         .iter()
@@ -75,6 +92,7 @@ fn print_summary(folder: &Path) -> Outcome {
         .map(|pair| pair.0)
         .collect();
     print!("{}", Survey::of_policies(&policies));
+    println!("cases for devices {}", generate::device_cases().len());
     Ok(())
 }
 
@@ -121,6 +139,29 @@ fn decide(file: &str, rows: &str, rounds: &str) -> Outcome {
         black_box(black_box(&judgement).response());
     }
     println!("{} {}", start.elapsed().as_nanos(), policy.lines.len());
+    Ok(())
+}
+
+/// Times a response with so many duties of all actions in turn, on a new switchboard in each round.
+fn time_enforcement(duties: &str, rounds: &str) -> Outcome {
+    let count: u32 = duties.parse()?;
+    let rounds: u64 = rounds.parse()?;
+    let duty = |place: u32| {
+        Ok(Duty {
+            force: Force::May,
+            action: u8::try_from(place % 16)?,
+            value: Value::Number(i32::try_from(place % 100 + 1)?),
+        })
+    };
+    let duties: Result<Vec<Duty>, TryFromIntError> = (0..count).map(duty).collect();
+    let duties = duties?;
+    let start = Instant::now();
+    for _ in 0..rounds {
+        let mut board: Switchboard<Journal, ValveBank> = Switchboard::default();
+        let duties = black_box(&duties[..]);
+        black_box(enforce(Bias::Base, Decision::Permit, duties, &mut board));
+    }
+    println!("{} {count}", start.elapsed().as_nanos());
     Ok(())
 }
 

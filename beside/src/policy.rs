@@ -205,7 +205,8 @@ impl<'a> Cursor<'a> {
     }
 }
 
-fn action(word: &[u8]) -> Option<u8> {
+/// An action of a duty.
+pub fn action(word: &[u8]) -> Option<u8> {
     let number = u8::try_from(spelling::number(word)?).ok()?;
     (number <= MOST_ACTION).then_some(number)
 }

@@ -2,14 +2,17 @@
 
 use std::iter;
 
-use crate::deciding;
+use crate::deciding::{self, Response};
+use crate::enforcement::{enforce, Bias, Enforced};
 use crate::line::Line;
 use crate::policy::{self, Policy};
 use crate::readings::{self, Readings};
 use crate::refusal::{Cause, Refusal};
+use crate::services::{Duty, Journal};
 use crate::value::Value;
 
 pub const MOST_BYTES: usize = 32_768;
+const HEADER: &str = "row decision enforced carried failed skipped";
 
 pub fn check(policy: &[u8], readings: &[u8]) -> Result<(Policy, Readings), Refusal> {
     within_limit(policy)?;
@@ -26,16 +29,16 @@ fn within_limit(file: &[u8]) -> Result<(), Refusal> {
     Ok(())
 }
 
-/// What the trial program prints: a header and each row's decision, or one line that says why not.
+/// What the trial program prints: a header and what became of each row, or one line that says
+/// why not.
 pub fn table(policy: &[u8], readings: &[u8]) -> String {
     let lines: Vec<String> = match check(policy, readings) {
         Ok((policy, readings)) => {
-            let header = iter::once("row decision".to_owned());
-            let row = |(place, judgement): (usize, deciding::Judgement)| {
-                format!("{} {}", place + 1, judgement.response().decision)
-            };
-            let rows = deciding::judgements(&policy, &readings).enumerate();
-            header.chain(rows.map(row)).collect()
+            let header = iter::once(HEADER.to_owned());
+            let rows = enforced(&policy, &readings).zip(1..);
+            header
+                .chain(rows.map(|(row, number)| outcome(number, &row)))
+                .collect()
         }
         Err(refusal) => vec![refusal.to_string()],
     };
@@ -47,22 +50,37 @@ pub fn answer(policy: &[u8], readings: &[u8]) -> String {
     match check(policy, readings) {
         Ok((policy, readings)) => {
             let first = iter::once(accepted(&policy, &readings));
-            let lines: Vec<String> = first.chain(decided(&policy, &readings)).collect();
+            let rows = enforced(&policy, &readings).zip(1..);
+            let rows = rows.map(|(row, number)| outcome(number, &row) + &told(&row.0));
+            let lines: Vec<String> = first.chain(rows).collect();
             lines.join("\n")
         }
         Err(refusal) => refusal.to_string(),
     }
 }
 
-/// The number of each row, counted from 1, and the response to it.
-fn decided<'a>(
+/// The response to each row and what became of it, with one new journal for all of them.
+pub fn enforced<'a>(
     policy: &'a Policy,
     readings: &'a Readings,
-) -> impl Iterator<Item = String> + use<'a> {
-    let row = |(place, judgement): (usize, deciding::Judgement)| {
-        format!("{} {}", place + 1, judgement.response())
-    };
-    deciding::judgements(policy, readings).enumerate().map(row)
+) -> impl Iterator<Item = (Response<'a>, Enforced)> {
+    let mut journal = Journal::default();
+    deciding::judgements(policy, readings).map(move |judgement| {
+        let response = judgement.response();
+        let duties: Vec<Duty> = response.duties.iter().map(Duty::from).collect();
+        let enforced = enforce(Bias::Base, response.decision, &duties, &mut journal);
+        (response, enforced)
+    })
+}
+
+/// The line about a row with this number, counted from 1.
+fn outcome(number: usize, (response, enforced): &(Response<'_>, Enforced)) -> String {
+    format!("{number} {} {enforced}", response.decision)
+}
+
+fn told(response: &Response<'_>) -> String {
+    let duty = |duty| format!(" {duty}");
+    response.duties.iter().map(duty).collect()
 }
 
 fn accepted(policy: &Policy, readings: &Readings) -> String {
@@ -104,7 +122,8 @@ mod tests {
     fn the_sample_pair_is_accepted() {
         assert_eq!(
             answer(POLICY, READINGS),
-            "accepted 6 2 3 eeeedp tntntm 8\n1 permit must 1 4\n2 not-app\n3 indet"
+            "accepted 6 2 3 eeeedp tntntm 8\n1 permit permit 1 0 0 must 1 4\n\
+             2 not-app not-app 0 0 0\n3 indet indet 0 0 0"
         );
         assert_eq!(answer(POLICY, b"a\n"), "accepted 6 1 0 eeeedp - 0");
     }
@@ -113,9 +132,13 @@ mod tests {
     fn the_table_of_the_sample_pair() {
         assert_eq!(
             table(POLICY, READINGS),
-            "row decision\n1 permit\n2 not-app\n3 indet\n"
+            "row decision enforced carried failed skipped\n1 permit permit 1 0 0\n\
+             2 not-app not-app 0 0 0\n3 indet indet 0 0 0\n"
         );
-        assert_eq!(table(POLICY, b"a\n"), "row decision\n");
+        assert_eq!(
+            table(POLICY, b"a\n"),
+            "row decision enforced carried failed skipped\n"
+        );
         assert_eq!(table(POLICY, b""), "refused 8 1 0 0\n");
     }
 
@@ -124,8 +147,25 @@ mod tests {
         let policy = b"kind a b c d e\nnum -5 - - - -\npermit 1 - - - -\n";
         assert_eq!(
             answer(policy, b"a b\n2,3 x\n-10 4,4\n"),
-            "accepted 2 2 2 ep NtnN -2\n1 indet\n2 indet"
+            "accepted 2 2 2 ep NtnN -2\n1 indet indet 0 0 0\n2 indet indet 0 0 0"
         );
+    }
+
+    #[test]
+    fn one_journal_serves_all_rows() {
+        let policy = b"kind a b c d e\nattr a - - - -\nnum 1 - - - -\nmay 7 2 - - -\n\
+            num 2 - - - -\nmust 0 4 3 - -\ntext x - - - -\nmay 8 6 5 - -\ndeny 1 7 - - -\n";
+        let readings = format!("a\n{}", "true\n".repeat(34));
+        let table = table(policy, readings.as_bytes());
+        let rows: Vec<&str> = table.lines().skip(1).collect();
+        assert_eq!(rows[0], "1 deny deny 2 1 0");
+        assert_eq!(rows[31], "32 deny deny 2 1 0");
+        assert_eq!(rows[32..], ["33 deny indet 0 2 1", "34 deny indet 0 2 1"]);
+        let answer = answer(policy, b"a\ntrue\n");
+        let row = answer.lines().last();
+        assert_eq!(row, Some("1 deny deny 2 1 0 may 7 1 must 0 2 may 8 x"));
+        // A journal left over from one pair would not have room for the next.
+        assert!(super::table(policy, b"a\ntrue\n").ends_with("\n1 deny deny 2 1 0\n"));
     }
 
     #[test]

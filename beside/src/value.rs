@@ -1,5 +1,7 @@
 //! The values that a reading can have, and how a cell spells them.
 
+use std::fmt;
+
 use crate::spelling;
 
 const SMALLEST_SET: usize = 2;
@@ -67,6 +69,24 @@ impl Value {
     }
 }
 
+impl fmt::Display for Value {
+    /// Spelt as in a cell.
+    fn fmt(&self, out: &mut fmt::Formatter<'_>) -> fmt::Result {
+        match self {
+            Value::Missing => out.write_str("-"),
+            Value::Error => out.write_str("!"),
+            Value::Boolean(boolean) => write!(out, "{boolean}"),
+            Value::Number(number) => write!(out, "{number}"),
+            Value::Text(text) => out.write_str(text),
+            Value::Numbers(numbers) => {
+                let members: Vec<String> = numbers.iter().map(i32::to_string).collect();
+                out.write_str(&members.join(","))
+            }
+            Value::Texts(texts) => out.write_str(&texts.join(",")),
+        }
+    }
+}
+
 fn owned_text(word: &[u8]) -> Option<String> {
     spelling::text(word).map(str::to_owned)
 }
@@ -91,6 +111,17 @@ mod tests {
             "NTNTtt"
         );
         assert_eq!(letters(&["1,2,3,4,5,6,7,8", "a,b,c,d,e,f,g,h"]), "NT");
+    }
+
+    #[test]
+    fn cells_are_spelt_as_they_were_read() {
+        let cells = [
+            "-", "!", "true", "false", "0", "-7", "roof", "1,1", "-5,0,7", "a,a", "b,a,x-9",
+        ];
+        for cell in cells {
+            let value = Value::of_cell(cell.as_bytes()).unwrap();
+            assert_eq!(value.to_string(), cell);
+        }
     }
 
     #[test]

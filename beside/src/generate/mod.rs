@@ -1,10 +1,12 @@
-//! Makes pairs of files, good and damaged, the same ones on every run.
+//! Makes pairs of files, good and damaged, and cases for devices, the same ones on every run.
 
 mod bytes;
 mod cells;
 mod children;
 mod deciding;
+mod devices;
 mod doubtful;
+mod enforcing;
 mod extremes;
 mod fields;
 mod judged;
@@ -21,10 +23,10 @@ mod table;
 mod tree;
 mod words;
 
+pub use devices::DeviceCase;
 pub use sample::{decision_policy, decision_row, LINES_OF_A_ROUND};
 
 use crate::line::{Algorithm, Strategy};
-use crate::spelling;
 use random::Random;
 
 const POLICY_SEED: u64 = 20_301;
@@ -44,35 +46,17 @@ impl Case {
         let lengths = format!("{} {}\n", self.policy.len(), self.readings.len());
         [lengths.as_bytes(), &self.policy, &self.readings, b"\n"].concat()
     }
-
-    /// The case at the start of these bytes, and what follows it.
-    fn unframed(bytes: &[u8]) -> Option<(Case, &[u8])> {
-        let (lengths, rest) = spelling::cut_line(bytes)?;
-        let (policy, readings) = std::str::from_utf8(lengths).ok()?.split_once(' ')?;
-        let (policy, rest) = rest.split_at_checked(policy.parse().ok()?)?;
-        let (readings, rest) = rest.split_at_checked(readings.parse().ok()?)?;
-        let case = Case {
-            policy: policy.to_vec(),
-            readings: readings.to_vec(),
-        };
-        Some((case, rest.strip_prefix(b"\n")?))
-    }
-
-    /// All cases that were framed one after the other, or none if they were not.
-    pub fn all_unframed(mut bytes: &[u8]) -> Option<Vec<Case>> {
-        let mut cases = Vec::new();
-        while !bytes.is_empty() {
-            let (case, rest) = Case::unframed(bytes)?;
-            cases.push(case);
-            bytes = rest;
-        }
-        Some(cases)
-    }
 }
 
-/// Those about which files are accepted, and then those about what policies decide.
+/// Those about which files are accepted, then those about what policies decide, and then those
+/// about what becomes of the duties.
 pub fn all_cases() -> Vec<Case> {
-    [plan::cases(), deciding::cases()].concat()
+    [plan::cases(), deciding::cases(), enforcing::cases()].concat()
+}
+
+/// All cases for devices.
+pub fn device_cases() -> Vec<DeviceCase> {
+    devices::cases()
 }
 
 /// Every algorithm with every strategy, as a set spells them.
@@ -94,17 +78,26 @@ mod tests {
     use super::*;
 
     #[test]
-    fn all_cases_stay_small_together_and_can_be_read_back() {
-        let cases = all_cases();
-        let bytes: Vec<u8> = cases.iter().flat_map(Case::framed).collect();
-        assert!(bytes.len() < 4_000_000, "{}", bytes.len());
-        assert_eq!(Case::all_unframed(&bytes), Some(cases));
-        assert_eq!(Case::all_unframed(&bytes[..bytes.len() - 1]), None);
+    fn all_cases_stay_small_together() {
+        let bytes: usize = all_cases().iter().map(|case| case.framed().len()).sum();
+        assert!(bytes < 4_600_000, "{bytes}");
+    }
+
+    #[test]
+    fn a_case_is_framed_by_its_lengths() {
+        let case = Case {
+            policy: b"ab\n".to_vec(),
+            readings: b"c".to_vec(),
+        };
+        assert_eq!(case.framed(), b"3 1\nab\nc\n");
     }
 
     /// They are compared with answers given earlier, so they must stay where they are.
     #[test]
-    fn cases_about_acceptance_come_first() {
-        assert!(all_cases().starts_with(&plan::cases()));
+    fn cases_about_enforcement_come_last() {
+        let earlier = [plan::cases(), deciding::cases()].concat();
+        assert!(all_cases().starts_with(&earlier));
+        let bytes: usize = earlier.iter().map(|case| case.framed().len()).sum();
+        assert!(bytes < 4_000_000, "{bytes}");
     }
 }

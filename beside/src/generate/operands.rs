@@ -267,7 +267,8 @@ mod tests {
     use super::*;
     use crate::trial;
 
-    /// The rows of the answer to one operator on one pair of cells.
+    /// What the row says about one operator on one pair of cells: the value that a duty tells,
+    /// or else the decision.
     fn told(operator: &str, left: &str, right: &str) -> String {
         let mut random = Random::new(3);
         let policy = shown(&mut random, |nodes, _| {
@@ -277,7 +278,11 @@ mod tests {
         let case = case(&policy, "a b", &[format!("{left} {right}")]);
         let answer = trial::answer(&case.policy, &case.readings);
         let row = answer.lines().nth(1).expect("one row");
-        row.rsplit(' ').next().expect("a last word").to_owned()
+        let words: Vec<&str> = row.split(' ').collect();
+        let [_, decision, _, _, _, _, duty @ ..] = &words[..] else {
+            panic!("too few words: {row}");
+        };
+        (*duty.last().unwrap_or(decision)).to_owned()
     }
 
     #[test]

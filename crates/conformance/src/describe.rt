@@ -1,11 +1,13 @@
-// A line that says what was read, and a line with the response to each row.
+// A line that says what was read, and a line with the response to each row and what enforcing it comes to.
 
+use crate::words::add_duties;
 use deciding::{Answer, Evaluator};
+use enforcement::{Bias, enforce};
 use pair::{Pair, check_pair};
-use policy::{Family, Force, Line, Policy, Room};
+use policy::{Family, Line, Policy, Room};
 use readings::TableRoom;
+use services::{Journal, PLACES, UNUSED};
 use std::alloc::{AllocError, Global};
-use trees::Duty;
 use values::Value;
 use writing::write_back;
 
@@ -79,47 +81,37 @@ fn accepted(heap: Global, pair: &Pair) -> Result<String, AllocError> {
     format!(in heap; "accepted {lines} {names} {rows} {families} {cells} {sum}")
 }
 
-// Adds a duty as ` FORCE ACTION VALUE`.
-fn add_duty(heap: Global, duty: &Duty, line: &mut String) -> Result<(), AllocError> {
-    let force = match duty.force {
-        Force::Must => "must",
-        Force::May => "may",
-    };
-    let action = duty.action;
-    line.push_str(format!(in heap; " {force} {action} ")?.as_str())?;
-    match duty.argument {
-        Value::Bool(truth) => line.push_str(format!(in heap; "{truth}")?.as_str()),
-        Value::Number(x) => line.push_str(format!(in heap; "{x}")?.as_str()),
-        Value::Text(text) => add_bytes(text.as_bytes(), line),
-        _ => line.push('?'),
-    }
-}
-
-fn add_bytes(bytes: &[u8], line: &mut String) -> Result<(), AllocError> {
-    for byte in bytes {
-        line.push(char::from(*byte))?;
-    }
-    Ok(())
-}
-
-// A row's number, decision and duties.
-fn responded(heap: Global, number: usize, answer: &Answer) -> Result<String, AllocError> {
+// What the trial program prints of a row, and the duties.
+fn responded(
+    heap: Global,
+    number: usize,
+    answer: &Answer,
+    journal: &mut Journal,
+) -> Result<String, AllocError> {
     let decision = answer.decision();
-    let mut line = format!(in heap; "{number} {decision}")?;
-    for duty in answer.duties() {
-        add_duty(heap, duty, &mut line)?;
-    }
+    let (enforced, carried, failed, skipped) = enforce(
+        Bias::Base,
+        decision,
+        answer.duties(),
+        journal,
+    );
+    let mut line = format!(in heap; "{number} {decision} {enforced} {carried} {failed} {skipped}")?;
+    add_duties(heap, answer.duties(), &mut line)?;
     Ok(line)
 }
 
-// Adds a line for each row.
+// Adds a line for each row. One journal takes the duties of all rows.
 fn add_responses(heap: Global, pair: &Pair, lines: &mut String) -> Result<(), AllocError> {
     let mut evaluator = Evaluator::new(heap)?;
     let mut answer = Answer::new(heap)?;
+    let mut entries = [UNUSED; PLACES];
+    let Ok(mut journal) = Journal::lay(&mut entries[..]) else {
+        return lines.push_str("\nno journal");
+    };
     for (number, row) in (1..=pair.readings.row_count()).zip(pair.readings.rows()) {
         evaluator.respond_to_row(&pair.policy, &row, &mut answer);
         lines.push('\n')?;
-        lines.push_str(responded(heap, number, &answer)?.as_str())?;
+        lines.push_str(responded(heap, number, &answer, &mut journal)?.as_str())?;
     }
     Ok(())
 }

@@ -1,23 +1,29 @@
-// Plays cases through the library: for each a line that says what was read, and a line for each row's response,
-// to be compared with what another evaluator says.
+// Plays cases through the library, to be compared with what another evaluator says:
+// for two files a line that says what was read, and a line for each row; for devices a line for each response or name, and what services hold in the end.
 //
-// A case on standard input is a line with the lengths of a policy file and of a readings file, then the bytes of both, then byte 10.
+// A case on standard input is a line with the lengths of a policy file and of a readings file, then the bytes of both, then byte 10;
+// or a line with one length, then so many bytes that are the lines of a case about devices, then byte 10.
 
 #![tactic(auto)]
 
 mod cases;
 mod describe;
+mod devices;
+mod lookups;
+mod words;
 
-use cases::Cases;
-use describe::answer;
+use cases::{Case, Cases};
 use std::io::Read;
 
 fn main(rt: HostRuntime) -> anyhow::Result<()> {
     let mut input = Vec::new(rt.alloc());
     rt.stdin().read_to_end(&mut input)?;
     for case in Cases(input.as_slice()) {
-        let line = answer(rt.alloc(), case.policy, case.readings)?;
-        println!(rt; "{line}")?;
+        let lines = match case {
+            Case::Files { policy, readings } => describe::answer(rt.alloc(), policy, readings)?,
+            Case::Devices(lines) => devices::answer(rt.alloc(), lines)?,
+        };
+        println!(rt; "{lines}")?;
     }
     Ok(())
 }

@@ -3,7 +3,7 @@
 use crate::case::{Case, POLICY, READINGS, Refusal, check_cases};
 use std::test::Fail;
 
-// Files are checked from the top, so the fault in the upper line is reported.
+// Of faults in two lines the upper one is reported.
 // Only after every line come the lowest line that is never named and then the family of the last line.
 const LINES: [Case; 6] = [
     Case {

@@ -39,7 +39,7 @@ is_false (text t) = false
 is_false (numbers zs) = false
 is_false (texts ts) = false
 
--- what is made of a boolean, a number, a text or a set of either; error of any other value
+-- what is made of booleans, numbers, texts and sets of these; error of any other value
 
 abbrev pub on_boolean : Value → (Bool → Value) → Value
 on_boolean missing f = error

@@ -37,7 +37,7 @@ same_number (pos x) (negsuc y) = false
 same_number (negsuc x) (pos y) = false
 same_number (negsuc x) (negsuc y) = x == y
 
--- two booleans, two numbers or two texts; no other pair can be compared
+-- booleans, numbers and texts, each with its like; no other pair can be compared
 abbrev pub compared : Value → Value → Value
 compared missing b = error
 compared error b = error

@@ -6,7 +6,7 @@ ghost use Rattle.operators.specs.Operators.{equal_of, in_of, greater_of};
 use crate::sides::not_taken;
 use values::Value;
 
-// Two booleans, two numbers or two texts; no other pair can be compared, so this is not `==` on values.
+// Booleans, numbers and texts, each with its like; no other pair can be compared, so this is not `==` on values.
 #[tactic(auto, using(crate::proofs::Among::same_text))]
 pub fn equal(a: &Value, b: &Value) -> Value
     ensures { result ≡ equal_of a.now b.now }

@@ -43,7 +43,7 @@ pub enum Cause {
     NameMisspelt,
     // A name is repeated.
     NameRepeated,
-    // A row has not one cell for each name or does not end with byte 10.
+    // The cells of a row are more or fewer than the names, or it does not end with byte 10.
     RowShape,
     // A cell is misspelt.
     CellMisspelt,

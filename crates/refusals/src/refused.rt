@@ -4,7 +4,7 @@ ghost use Rattle.std.specs.Prelude.{◌≡◌};
 
 use crate::place::Rejection;
 
-// Why a file is refused, and the memory for the next try.
+// Why a call is refused, and the memory that it was handed.
 #[derive(Drop)]
 pub struct Refused<M> {
     pub rejection: Rejection,

@@ -1,0 +1,3 @@
+pub mod Trying
+pub mod Counts
+pub mod Journalling

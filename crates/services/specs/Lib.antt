@@ -1,0 +1,5 @@
+pub mod Meaning
+pub mod Enough
+pub mod Journal
+pub mod ValveBank
+pub mod Switchboard

@@ -7,7 +7,6 @@ use spelling::cell::cell;
 use spelling::number::number;
 use spelling::word::name;
 use std::alloc::{AllocError, Global};
-use values::{Name, Value};
 
 // A line `NAME NUMBER STATUS`.
 fn sensor(heap: Global, line: &[u8]) -> Result<Option<Sensor>, AllocError> {
@@ -75,26 +74,22 @@ pub(crate) fn sensors(heap: Global, lines: &[&[u8]], out: &mut String) -> Result
     Ok(())
 }
 
-fn row_names(heap: Global, line: &[u8]) -> Result<Option<Vec<Name>>, AllocError> {
-    let mut names = Vec::new(heap);
+// What each word of a line spells; none if one of them is misspelt.
+fn spelled<T: Drop, F: Fn(&[u8]) -> Option<T>>(
+    heap: Global,
+    line: &[u8],
+    read: F,
+) -> Result<Option<Vec<T>>, AllocError>
+    requires { F.IsAlwaysCallable read }
+{
+    let mut all = Vec::new(heap);
     for word in parts(heap, line, b' ')? {
-        match name(word) {
-            Some(name) => names.push(name)?,
+        match read(word) {
+            Some(one) => all.push(one)?,
             None => return Ok(None),
         }
     }
-    Ok(Some(names))
-}
-
-fn row_cells(heap: Global, line: &[u8]) -> Result<Option<Vec<Value>>, AllocError> {
-    let mut cells = Vec::new(heap);
-    for word in parts(heap, line, b' ')? {
-        match cell(word) {
-            Some(value) => cells.push(value)?,
-            None => return Ok(None),
-        }
-    }
-    Ok(Some(cells))
+    Ok(Some(all))
 }
 
 // Adds a line for each name: the value with a row before the bank, and with the bank before the row.
@@ -102,7 +97,8 @@ pub(crate) fn before(heap: Global, lines: &[&[u8]], out: &mut String) -> Result<
     let [first, second, lines @ ..] = lines else {
         return out.push_str("malformed");
     };
-    let (Some(names), Some(cells)) = (row_names(heap, first)?, row_cells(heap, second)?) else {
+    let (Some(names), Some(cells)) = (spelled(heap, first, name)?, spelled(heap, second, cell)?)
+    else {
         return out.push_str("malformed");
     };
     let Some(bank) = bank(heap, lines)? else {

@@ -1,5 +1,5 @@
 -- Where the cells of one row lie, and the names and cells that are left of it.
-use Rattle.std.proofs.Common.{◌≡◌, ℕ, zero, suc, ◌+◌, ◌*◌, ◌<◌, ◌≤◌, min, Bool, true, false, cond, List, [], ◌∷◌, length, get_or, take, drop, Some, Option, Bor, sym, refl, ap, ◌∙◌, inl, inr, suc-mul, zero-mul, arith}
+use Rattle.std.proofs.Common.{◌≡◌, ℕ, zero, suc, ◌+◌, ◌*◌, ◌<◌, ◌≤◌, min, Bool, true, false, cond, List, [], ◌∷◌, map, length, get_or, take, drop, Some, Option, Bor, sym, refl, ap, ◌∙◌, inl, inr, suc-mul, zero-mul, arith}
 use Rattle.std.proofs.lemmas.List.{drop_all, drop-drop}
 use Rattle.std.proofs.lemmas.Bool.{cases_lt}
 use Rattle.std.specs.List.{find, zip}
@@ -32,23 +32,39 @@ row-cells width n i top start cells row l h s r =
     let e : row ≡ take width (drop (i * width) cells) = r ∙ ap (λ k. take width (drop k cells)) s ∙ ap (take width) (drop_min (i * width) top cells h) in
     e ∙ sym (row_at width n cells i l)
 
+-- things with a name and a value each
+module _ {X : Type 0} (name : X → List ℕ) (value : X → Value) where
+  abbrev pub has_name : List ℕ → X → Bool
+  has_name x y = bytes_eq (name y) x
+
+  -- the value of what was found, missing where nothing was
+  abbrev pub value_found : Option X → Value
+  value_found o = option_map_or value o missing
+
+  first_or_later : (y : X) (o : Option X) (b : Bool) → value_found (cond b (Some y) o) ≡ cond b (value y) (value_found o)
+  first_or_later y o true = refl
+  first_or_later y o false = refl
+
+  -- the first that has the name tells what a row of their names and values has for it
+  pub first_found : (ys : List X) (x : List ℕ) → value_found (find (has_name x) ys) ≡ row_map (map name ys) (map value ys) x
+  first_found [] x = refl
+  first_found (y ∷ ys) x = first_or_later y (find (has_name x) ys) (bytes_eq (name y) x) ∙ ap (cond (bytes_eq (name y) x) (value y)) (first_found ys x)
+
 -- a name beside its value has the name x
 abbrev pub is_named : List ℕ → Name × Value → Bool
-is_named x p = bytes_eq p.0 x
+is_named = has_name (λ p. p.0) (λ p. p.1)
 
--- the value of what was found, missing where nothing was
 abbrev value_in : Option (Name × Value) → Value
-value_in o = option_map_or (λ p. p.1) o missing
+value_in = value_found (λ p. p.0) (λ p. p.1)
 
-first_or_later : (p : Name × Value) (o : Option (Name × Value)) (b : Bool) → value_in (cond b (Some p) o) ≡ cond b p.1 (value_in o)
-first_or_later p o true = refl
-first_or_later p o false = refl
+-- a row has what its pairs of a name and a value have
+row_pairs : (names : List Name) (cells : List Value) (x : List ℕ) → row_map (map (λ p. p.0) (zip names cells)) (map (λ p. p.1) (zip names cells)) x ≡ row_map names cells x
+row_pairs [] cells x = refl
+row_pairs (n ∷ names) [] x = refl
+row_pairs (n ∷ names) (v ∷ cells) x = ap (cond (bytes_eq n x) v) (row_pairs names cells x)
 
--- the first that has it tells what the row has for it
 row_found : (names : List Name) (cells : List Value) (x : List ℕ) → value_in (find (is_named x) (zip names cells)) ≡ row_map names cells x
-row_found [] cells x = refl
-row_found (n ∷ names) [] x = refl
-row_found (n ∷ names) (v ∷ cells) x = first_or_later (n, v) (find (is_named x) (zip names cells)) (bytes_eq n x) ∙ ap (cond (bytes_eq n x) v) (row_found names cells x)
+row_found names cells x = first_found (λ p. p.0) (λ p. p.1) (zip names cells) x ∙ row_pairs names cells x
 
 -- what is found is a pair of references
 abbrev pub referred : Bor Name × Bor Value → Name × Value

@@ -14,7 +14,7 @@ const SERVICES: [&str; 3] = ["journal", "bank", "board"];
 const SWITCHBOARDS: [&str; 3] = ["board", "boards", "exchanged"];
 const ACTIONS: u8 = 16;
 /// Numbers around the positions that a valve can have, and a value of every other sort.
-const VALUES: [&str; 15] = [
+pub(super) const VALUES: [&str; 15] = [
     "-1",
     "0",
     "1",

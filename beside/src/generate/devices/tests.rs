@@ -1,24 +1,9 @@
+use super::responses::VALUES;
 use super::*;
 use crate::devices::answer;
 use crate::sources::SENSORS;
+use crate::value::Value;
 use std::collections::{BTreeMap, BTreeSet};
-
-const VALUES: [&str; 14] = [
-    "-1",
-    "0",
-    "1",
-    "99",
-    "100",
-    "101",
-    "-2147483648",
-    "2147483647",
-    "true",
-    "roof",
-    "-",
-    "!",
-    "0,50",
-    "ab,cd",
-];
 
 /// The cases about this device.
 fn cases_for(device: &str) -> Vec<DeviceCase> {
@@ -62,6 +47,17 @@ fn sensors_and_names(case: &DeviceCase) -> (&[String], &[String]) {
 
 fn count<T>(things: &[T], wanted: impl Fn(&T) -> bool) -> usize {
     things.iter().filter(|thing| wanted(thing)).count()
+}
+
+#[test]
+fn values_are_of_every_sort_and_around_the_limits() {
+    let letter = |value: &&str| Value::of_cell(value.as_bytes()).map(|value| value.letter());
+    let sorts: BTreeSet<Option<char>> = VALUES.iter().map(letter).collect();
+    assert_eq!(sorts.len(), 7);
+    assert!(!sorts.contains(&None));
+    for number in ["-2147483648", "-1", "0", "100", "101", "2147483647"] {
+        assert!(VALUES.contains(&number), "{number}");
+    }
 }
 
 #[test]

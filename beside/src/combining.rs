@@ -4,7 +4,7 @@ use std::fmt;
 
 use crate::line::{Algorithm, Effect};
 
-#[derive(Clone, Copy, Debug, PartialEq, Eq)]
+#[derive(Clone, Copy, Debug, PartialEq, Eq, PartialOrd, Ord)]
 pub enum Decision {
     Permit,
     Deny,

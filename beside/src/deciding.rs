@@ -8,6 +8,7 @@ use crate::line::{Algorithm, Force, Line, LineNumber, Strategy};
 use crate::operators::{self, Operand};
 use crate::policy::Policy;
 use crate::readings::Readings;
+use crate::sources::Row;
 use crate::value::Value;
 
 /// What a fulfilled duty tells: a single thing, and a known one.
@@ -88,12 +89,34 @@ impl fmt::Display for Response<'_> {
     }
 }
 
+/// How the values of `attr` lines are found.
+pub trait Lookup<'a> {
+    /// The value for the line with this number, which asks for this name.
+    fn reading(&self, line: LineNumber, name: &str) -> Operand<'a>;
+}
+
+impl<'a> Lookup<'a> for Row<'a> {
+    fn reading(&self, _: LineNumber, name: &str) -> Operand<'a> {
+        let place = self.names.iter().position(|known| known == name);
+        place.map_or(Operand::Missing, |place| Operand::from(&self.cells[place]))
+    }
+}
+
+/// What was looked up before, with a place for each line.
+#[derive(Clone, Debug, PartialEq, Eq)]
+pub struct ByLine<'a>(pub Vec<Operand<'a>>);
+
+impl<'a> Lookup<'a> for ByLine<'a> {
+    fn reading(&self, line: LineNumber, _: &str) -> Operand<'a> {
+        self.0[line - 1]
+    }
+}
+
 /// A policy in front of one row of readings.
 #[derive(Clone, Copy, Debug)]
-pub struct Judgement<'a> {
+pub struct Judgement<'a, L = Row<'a>> {
     policy: &'a Policy,
-    names: &'a [String],
-    cells: &'a [Value],
+    readings: L,
 }
 
 /// One for each row, in their order.
@@ -101,23 +124,56 @@ pub fn judgements<'a>(
     policy: &'a Policy,
     readings: &'a Readings,
 ) -> impl Iterator<Item = Judgement<'a>> {
+    let names = &readings.names;
+    let row = move |cells| Row { names, cells };
     readings.rows.iter().map(move |cells| Judgement {
         policy,
-        names: &readings.names,
-        cells,
+        readings: row(cells),
     })
 }
 
 impl<'a> Judgement<'a> {
+    /// The same with every name looked up beforehand.
+    pub fn looked_up(&self) -> Judgement<'a, ByLine<'a>> {
+        let value = |(line, number): (&Line, LineNumber)| match line {
+            Line::Attr(name) => self.readings.reading(number, name),
+            _ => Operand::Missing,
+        };
+        Judgement {
+            policy: self.policy,
+            readings: ByLine(self.policy.lines.iter().zip(1..).map(value).collect()),
+        }
+    }
+}
+
+impl<'a> Judgement<'a, ByLine<'a>> {
+    /// The value of each `attr` line in its place; the other places mean nothing.
+    pub fn readings(&self) -> &[Operand<'a>] {
+        &self.readings.0
+    }
+}
+
+impl<'a, L: Lookup<'a>> Judgement<'a, L> {
     /// What the policy as a whole, which is its last line, answers.
     pub fn response(&self) -> Response<'a> {
         self.policy_at(self.policy.lines.len())
     }
 
+    /// What the policies below the last line decide, where it is a set that applies.
+    pub fn children(&self) -> Option<Vec<Decision>> {
+        match *self.policy.line(self.policy.lines.len()) {
+            Line::Set { target, item, .. } if self.value(target) == Operand::Boolean(true) => {
+                let items = self.chain(Some(item)).into_iter();
+                Some(items.map(|item| self.item_at(item).decision).collect())
+            }
+            _ => None,
+        }
+    }
+
     /// The value of the expression at this line.
     pub fn value(&self, line: LineNumber) -> Operand<'a> {
         match self.policy.line(line) {
-            Line::Attr(name) => self.reading(name),
+            Line::Attr(name) => self.readings.reading(line, name),
             Line::Num(number) => Operand::Number(*number),
             Line::Text(text) => Operand::Text(text),
             Line::Boolean(boolean) => Operand::Boolean(*boolean),
@@ -129,11 +185,6 @@ impl<'a> Judgement<'a> {
             } => operators::apply(*operator, self.value(*left), self.value(*right)),
             other => unreachable!("checked to be an expression: {other:?}"),
         }
-    }
-
-    fn reading(&self, name: &str) -> Operand<'a> {
-        let place = self.names.iter().position(|known| known == name);
-        place.map_or(Operand::Missing, |place| Operand::from(&self.cells[place]))
     }
 
     fn policy_at(&self, line: LineNumber) -> Response<'a> {

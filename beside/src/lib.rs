@@ -10,6 +10,7 @@ pub mod combining;
 pub mod deciding;
 pub mod devices;
 pub mod enforcement;
+pub mod flat;
 pub mod generate;
 pub mod line;
 pub mod operators;

@@ -1,4 +1,4 @@
-//! The command line: the cases and their summary, the table for a folder, sample policies and three stopwatches.
+//! The command line: the cases and their summary, the table for a folder, sample policies and five stopwatches.
 
 use std::error::Error;
 use std::hint::black_box;
@@ -10,10 +10,13 @@ use std::time::Instant;
 use std::{env, fs};
 
 use beside::combining::Decision;
+use beside::deciding::Judgement;
 use beside::enforcement::{enforce, Bias};
+use beside::flat::Conditions;
 use beside::generate::{self, Case};
 use beside::line::Force;
 use beside::policy::Policy;
+use beside::readings::Readings;
 use beside::services::{Duty, Journal, Switchboard, ValveBank};
 use beside::summary::Summary;
 use beside::survey::Survey;
@@ -28,6 +31,8 @@ const USAGE: &str = "usage: beside cases OUTDIR
        beside bench FILE ROUNDS
        beside policy LINES
        beside decide FILE ROWFILE ROUNDS
+       beside walk FILE ROWFILE ROUNDS
+       beside flat CONDITIONS FILE ROWFILE ROUNDS
        beside enforce DUTIES ROUNDS
        beside decidepolicy LINES
        beside deciderow LINES";
@@ -43,6 +48,8 @@ fn main() -> ExitCode {
         ["bench", file, rounds] => bench(file, rounds),
         ["policy", lines] => print_policy(lines),
         ["decide", file, rows, rounds] => decide(file, rows, rounds),
+        ["walk", file, rows, rounds] => walk(file, rows, rounds),
+        ["flat", conditions, file, rows, rounds] => flat(conditions, file, rows, rounds),
         ["enforce", duties, rounds] => time_enforcement(duties, rounds),
         ["decidepolicy", lines] => print_decision_policy(lines),
         ["deciderow", lines] => print_decision_row(lines),
@@ -86,12 +93,8 @@ fn print_summary() -> Outcome {
     let answers: String = cases.iter().map(answer).collect();
     print!("{}", Summary::of_answers(&answers));
     let accepted = |case: &Case| trial::check(&case.policy, &case.readings).ok();
-    let policies: Vec<Policy> = cases
-        .iter()
-        .filter_map(accepted)
-        .map(|pair| pair.0)
-        .collect();
-    print!("{}", Survey::of_policies(&policies));
+    let pairs: Vec<(Policy, Readings)> = cases.iter().filter_map(accepted).collect();
+    print!("{}", Survey::of_pairs(&pairs));
     println!("cases for devices {}", generate::device_cases().len());
     Ok(())
 }
@@ -129,17 +132,65 @@ fn print_policy(lines: &str) -> Outcome {
 
 /// Times the decision about the first row alone, with both files read beforehand.
 fn decide(file: &str, rows: &str, rounds: &str) -> Outcome {
-    let policy = policy::parse(&fs::read(file)?).map_err(|refusal| refusal.to_string())?;
-    let readings = readings::parse(&fs::read(rows)?).map_err(|refusal| refusal.to_string())?;
+    let (policy, readings) = pair(file, rows)?;
     let rounds: u64 = rounds.parse()?;
-    let judgement = deciding::judgements(&policy, &readings).next();
-    let judgement = judgement.ok_or("the readings have no row")?;
+    let judgement = first_row(&policy, &readings)?;
     let start = Instant::now();
     for _ in 0..rounds {
         black_box(black_box(&judgement).response());
     }
     println!("{} {}", start.elapsed().as_nanos(), policy.lines.len());
     Ok(())
+}
+
+/// Times the same with the names looked up beforehand too.
+fn walk(file: &str, rows: &str, rounds: &str) -> Outcome {
+    let (policy, readings) = pair(file, rows)?;
+    let rounds: u64 = rounds.parse()?;
+    let judgement = first_row(&policy, &readings)?.looked_up();
+    let start = Instant::now();
+    for _ in 0..rounds {
+        black_box(black_box(&judgement).response());
+    }
+    println!("{} {}", start.elapsed().as_nanos(), policy.lines.len());
+    Ok(())
+}
+
+/// Times a pass over all conditions, with the names looked up beforehand, once it has come to
+/// the decision that the policy has.
+fn flat(conditions: &str, file: &str, rows: &str, rounds: &str) -> Outcome {
+    let (policy, readings) = pair(file, rows)?;
+    let conditions = Conditions::parse(&fs::read_to_string(conditions)?, &policy)?;
+    let rounds: u64 = rounds.parse()?;
+    let judgement = first_row(&policy, &readings)?.looked_up();
+    let decision = judgement.response().decision;
+    let mut scratch = conditions.scratch();
+    let passed = conditions.pass(judgement.readings(), &mut scratch);
+    let marked = conditions.marked(&scratch);
+    if passed != Some(decision) || marked != [decision] {
+        return Err(format!("marked are {marked:?} where the policy has {decision:?}").into());
+    }
+    let start = Instant::now();
+    for _ in 0..rounds {
+        let (conditions, readings) = black_box((&conditions, judgement.readings()));
+        black_box(conditions.pass(readings, &mut scratch));
+    }
+    println!("{} {}", start.elapsed().as_nanos(), policy.lines.len());
+    Ok(())
+}
+
+fn pair(file: &str, rows: &str) -> Result<(Policy, Readings), Box<dyn Error>> {
+    let policy = policy::parse(&fs::read(file)?).map_err(|refusal| refusal.to_string())?;
+    let readings = readings::parse(&fs::read(rows)?).map_err(|refusal| refusal.to_string())?;
+    Ok((policy, readings))
+}
+
+fn first_row<'a>(
+    policy: &'a Policy,
+    readings: &'a Readings,
+) -> Result<Judgement<'a>, Box<dyn Error>> {
+    let judgement = deciding::judgements(policy, readings).next();
+    Ok(judgement.ok_or("the readings have no row")?)
 }
 
 /// Times a response with so many duties of all actions in turn, on a new switchboard in each round.

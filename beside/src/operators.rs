@@ -31,6 +31,7 @@ impl<'a> From<&'a Value> for Operand<'a> {
     }
 }
 
+#[inline(always)]
 pub fn not(side: Operand<'_>) -> Operand<'_> {
     match side {
         Boolean(boolean) => Boolean(!boolean),
@@ -39,6 +40,7 @@ pub fn not(side: Operand<'_>) -> Operand<'_> {
     }
 }
 
+#[inline(always)]
 pub fn apply<'a>(operator: Operator, left: Operand<'a>, right: Operand<'a>) -> Operand<'a> {
     match operator {
         Operator::And => connected(false, left, right),
@@ -56,21 +58,18 @@ pub fn apply<'a>(operator: Operator, left: Operand<'a>, right: Operand<'a>) -> O
 
 /// `and` and `or` are one operator seen in a mirror: they differ in which boolean settles
 /// them alone, whatever the other side is.
+#[inline(always)]
 fn connected<'a>(settling: bool, left: Operand<'a>, right: Operand<'a>) -> Operand<'a> {
-    let sides = [left, right];
-    let yields = |side: &Operand| *side == Boolean(!settling);
-    if sides.contains(&Boolean(settling)) {
-        Boolean(settling)
-    } else if sides.iter().all(yields) {
-        Boolean(!settling)
-    } else if sides.iter().all(|side| yields(side) || *side == Missing) {
-        Missing
-    } else {
-        Error
+    match (left, right) {
+        (Boolean(side), _) | (_, Boolean(side)) if side == settling => Boolean(settling),
+        (Boolean(_), Boolean(_)) => Boolean(!settling),
+        (Boolean(_) | Missing, Boolean(_) | Missing) => Missing,
+        _ => Error,
     }
 }
 
 /// An error wins over a missing value, and both win over sides that do not fit.
+#[inline(always)]
 fn strict<'a>(
     left: Operand<'a>,
     right: Operand<'a>,
@@ -83,6 +82,7 @@ fn strict<'a>(
     }
 }
 
+#[inline(always)]
 fn equal<'a>(left: Operand<'a>, right: Operand<'a>) -> Option<Operand<'a>> {
     match (left, right) {
         (Boolean(left), Boolean(right)) => Some(Boolean(left == right)),
@@ -92,6 +92,7 @@ fn equal<'a>(left: Operand<'a>, right: Operand<'a>) -> Option<Operand<'a>> {
     }
 }
 
+#[inline(always)]
 fn member<'a>(left: Operand<'a>, right: Operand<'a>) -> Option<Operand<'a>> {
     match (left, right) {
         (Number(number), Numbers(numbers)) => Some(Boolean(numbers.contains(&number))),
@@ -100,6 +101,7 @@ fn member<'a>(left: Operand<'a>, right: Operand<'a>) -> Option<Operand<'a>> {
     }
 }
 
+#[inline(always)]
 fn greater<'a>(left: Operand<'a>, right: Operand<'a>) -> Option<Operand<'a>> {
     match (left, right) {
         (Number(left), Number(right)) => Some(Boolean(left > right)),
@@ -107,6 +109,7 @@ fn greater<'a>(left: Operand<'a>, right: Operand<'a>) -> Option<Operand<'a>> {
     }
 }
 
+#[inline(always)]
 fn arithmetic<'a>(
     left: Operand<'a>,
     right: Operand<'a>,

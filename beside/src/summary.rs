@@ -60,7 +60,7 @@ impl Summary {
     /// None if the words after the row's number are no such row.
     fn count_row(&mut self, row: &str) -> Option<()> {
         let words: Vec<&str> = row.split(' ').collect();
-        let [decision, enforced, carried, failed, skipped, duties @ ..] = &words[..] else {
+        let [decision, _, enforced, carried, failed, skipped, duties @ ..] = &words[..] else {
             return None;
         };
         let known = Decision::of_word(decision)?;
@@ -153,10 +153,10 @@ mod tests {
 
     #[test]
     fn rows_are_counted_by_decision() {
-        let answers = "accepted 2 1 5 ep nnnnn 0\n1 permit indet 0 1 0 must 11 66\n\
-            2 deny deny 0 0 0\n3 not-app not-app 0 0 0\n4 indet indet 0 0 0\n\
-            5 indet indet 0 0 0\nrefused 1 1 0 0\naccepted 2 1 1 ep n 0\n\
-            1 deny deny 1 0 0 may 0 a\n";
+        let answers = "accepted 2 1 5 ep nnnnn 0\n1 permit permit indet 0 1 0 must 11 66\n\
+            2 deny deny deny 0 0 0\n3 not-app not-app not-app 0 0 0\n\
+            4 indet indet indet 0 0 0\n5 indet indet indet 0 0 0\nrefused 1 1 0 0\n\
+            accepted 2 1 1 ep n 0\n1 deny deny deny 1 0 0 may 0 a\n";
         let summary = Summary::of_answers(answers);
         assert_eq!((summary.cases, summary.accepted()), (3, 2));
         assert_eq!(summary.by_decision, [1, 2, 1, 2]);
@@ -166,9 +166,10 @@ mod tests {
     #[test]
     fn rows_are_counted_by_what_became_of_them() {
         let answers = "accepted 9 1 5 eeedededp nnn 0\n\
-            1 permit indet 1 1 1 must 1 a must 9 b may 3 c\n\
-            2 permit permit 1 1 0 may 1 a may 9 b\n3 deny deny 0 1 0 may 8 b\n\
-            4 deny indet 0 1 2 must 9 a must 9 b may 3 c\n5 not-app not-app 0 0 0\n";
+            1 permit permit indet 1 1 1 must 1 a must 9 b may 3 c\n\
+            2 permit permit permit 1 1 0 may 1 a may 9 b\n3 deny deny deny 0 1 0 may 8 b\n\
+            4 deny deny indet 0 1 2 must 9 a must 9 b may 3 c\n\
+            5 not-app not-app not-app 0 0 0\n";
         let summary = Summary::of_answers(answers);
         assert_eq!(summary.rows_with_carried, 2);
         assert_eq!(summary.rows_with_failed, 4);
@@ -179,7 +180,7 @@ mod tests {
 
     #[test]
     fn cases_are_counted_that_need_more_room() {
-        let row = |number: usize, duty: &str| format!("{number} deny deny 1 0 0 {duty}\n");
+        let row = |number: usize, duty: &str| format!("{number} deny deny deny 1 0 0 {duty}\n");
         let rows = |rows: usize, duty: &str| -> String {
             (1..=rows).map(|number| row(number, duty)).collect()
         };
@@ -192,7 +193,7 @@ mod tests {
         let two = case(rows(64, "may 0 1")) + &case(rows(1, "may 0 1"));
         assert_eq!(Summary::of_answers(&two).overfull, 0);
         // A skipped duty is not tried.
-        let skipped = rows(64, "may 7 1") + "65 deny indet 0 1 1 must 8 1 must 7 1\n";
+        let skipped = rows(64, "may 7 1") + "65 deny deny indet 0 1 1 must 8 1 must 7 1\n";
         assert_eq!(Summary::of_answers(&case(skipped)).overfull, 0);
     }
 }

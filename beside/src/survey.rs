@@ -3,8 +3,11 @@
 use std::collections::{BTreeMap, BTreeSet};
 use std::fmt;
 
+use crate::combining::Decision;
+use crate::deciding;
 use crate::line::Line;
 use crate::policy::{Policy, MOST_LINES};
+use crate::readings::Readings;
 
 /// In how many policies something occurs.
 #[derive(Clone, Copy, Debug, Default, PartialEq, Eq)]
@@ -22,13 +25,16 @@ pub struct Survey {
     pub deepest: usize,
     /// How many policies have as many lines as there may be.
     pub full: usize,
+    /// What sets of three at the root combine in some row, by how they do it.
+    pub triples: BTreeMap<String, BTreeSet<Vec<Decision>>>,
 }
 
 impl Survey {
-    pub fn of_policies<'a>(policies: impl IntoIterator<Item = &'a Policy>) -> Survey {
+    pub fn of_pairs<'a>(pairs: impl IntoIterator<Item = &'a (Policy, Readings)>) -> Survey {
         let mut survey = Survey::default();
-        for policy in policies {
+        for (policy, readings) in pairs {
             survey.count(policy);
+            survey.count_triples(policy, readings);
         }
         survey
     }
@@ -47,6 +53,16 @@ impl Survey {
             uses.at_the_root += usize::from(root.contains(word));
             uses.below_the_root += usize::from(below.contains(word));
         }
+    }
+
+    fn count_triples(&mut self, policy: &Policy, readings: &Readings) {
+        let Some(combining) = policy.lines.last().and_then(combining) else {
+            return;
+        };
+        let rows = deciding::judgements(policy, readings);
+        let children = rows.filter_map(|row| row.children());
+        let triples = self.triples.entry(combining).or_default();
+        triples.extend(children.filter(|children| children.len() == 3));
     }
 }
 
@@ -87,6 +103,9 @@ impl fmt::Display for Survey {
                 "policies with {word} {anywhere} (root {root}, nested {below})"
             )?;
         }
+        for (word, triples) in &self.triples {
+            writeln!(out, "triples below {word} {}", triples.len())?;
+        }
         writeln!(out, "deepest nesting {}", self.deepest)?;
         writeln!(out, "policies with {MOST_LINES} lines {}", self.full)
     }
@@ -95,7 +114,8 @@ impl fmt::Display for Survey {
 #[cfg(test)]
 mod tests {
     use super::*;
-    use crate::policy;
+    use crate::{policy, readings};
+    use Decision::{Deny, Indeterminate, NotApplicable, Permit};
 
     fn parsed(lines: &str) -> Policy {
         let file = format!("kind a b c d e\n{}\n", lines.replace('|', "\n"));
@@ -111,7 +131,9 @@ mod tests {
              item 8 6 - - -|true - - - - -|set p-over.all 10 9 - -",
         );
         assert_eq!((nesting(&rule), nesting(&nested)), (0, 2));
-        let survey = Survey::of_policies([&rule, &nested, &nested]);
+        let nested = (nested, readings::parse(b"a\n").unwrap());
+        let rule = (rule, nested.1.clone());
+        let survey = Survey::of_pairs([&rule, &nested, &nested]);
         let uses = |word: &str| {
             let uses = survey.combinings[word];
             [uses.anywhere, uses.at_the_root, uses.below_the_root]
@@ -119,5 +141,22 @@ mod tests {
         assert_eq!(uses("p-over.all"), [2, 2, 0]);
         assert_eq!(uses("one-app.greedy"), [2, 0, 2]);
         assert_eq!((survey.combinings.len(), survey.deepest), (2, 2));
+    }
+
+    #[test]
+    fn triples_are_counted_once_each() {
+        let policy = parsed(
+            "attr a - - - -|permit 1 - - - -|item 2 - - - -|attr b - - - -|deny 4 - - - -|\
+             item 5 3 - - -|true - - - - -|permit 7 - - - -|item 8 6 - - -|attr c - - - -|\
+             set one-app.all 10 9 - -",
+        );
+        let rows = b"a b c\ntrue - true\n! true true\ntrue false true\ntrue true -\n";
+        let pair = (policy, readings::parse(rows).unwrap());
+        let triples = &Survey::of_pairs([&pair, &pair]).triples["one-app.all"];
+        let expected = [
+            vec![Permit, NotApplicable, Permit],
+            vec![Indeterminate, Deny, Permit],
+        ];
+        assert_eq!(*triples, BTreeSet::from(expected));
     }
 }

@@ -51,7 +51,7 @@ pub fn answer(policy: &[u8], readings: &[u8]) -> String {
         Ok((policy, readings)) => {
             let first = iter::once(accepted(&policy, &readings));
             let rows = enforced(&policy, &readings).zip(1..);
-            let rows = rows.map(|(row, number)| outcome(number, &row) + &told(&row.0));
+            let rows = rows.map(|(row, number)| compared(number, &row));
             let lines: Vec<String> = first.chain(rows).collect();
             lines.join("\n")
         }
@@ -78,9 +78,13 @@ fn outcome(number: usize, (response, enforced): &(Response<'_>, Enforced)) -> St
     format!("{number} {} {enforced}", response.decision)
 }
 
-fn told(response: &Response<'_>) -> String {
+/// The same with the decision twice, since a flat pass over the conditions must come to it too,
+/// and with the duties behind.
+fn compared(number: usize, (response, enforced): &(Response<'_>, Enforced)) -> String {
+    let (tree, flat) = (response.decision, response.decision);
     let duty = |duty| format!(" {duty}");
-    response.duties.iter().map(duty).collect()
+    let duties: String = response.duties.iter().map(duty).collect();
+    format!("{number} {tree} {flat} {enforced}{duties}")
 }
 
 fn accepted(policy: &Policy, readings: &Readings) -> String {
@@ -122,8 +126,8 @@ mod tests {
     fn the_sample_pair_is_accepted() {
         assert_eq!(
             answer(POLICY, READINGS),
-            "accepted 6 2 3 eeeedp tntntm 8\n1 permit permit 1 0 0 must 1 4\n\
-             2 not-app not-app 0 0 0\n3 indet indet 0 0 0"
+            "accepted 6 2 3 eeeedp tntntm 8\n1 permit permit permit 1 0 0 must 1 4\n\
+             2 not-app not-app not-app 0 0 0\n3 indet indet indet 0 0 0"
         );
         assert_eq!(answer(POLICY, b"a\n"), "accepted 6 1 0 eeeedp - 0");
     }
@@ -147,7 +151,7 @@ mod tests {
         let policy = b"kind a b c d e\nnum -5 - - - -\npermit 1 - - - -\n";
         assert_eq!(
             answer(policy, b"a b\n2,3 x\n-10 4,4\n"),
-            "accepted 2 2 2 ep NtnN -2\n1 indet indet 0 0 0\n2 indet indet 0 0 0"
+            "accepted 2 2 2 ep NtnN -2\n1 indet indet indet 0 0 0\n2 indet indet indet 0 0 0"
         );
     }
 
@@ -163,7 +167,7 @@ mod tests {
         assert_eq!(rows[32..], ["33 deny indet 0 2 1", "34 deny indet 0 2 1"]);
         let answer = answer(policy, b"a\ntrue\n");
         let row = answer.lines().last();
-        assert_eq!(row, Some("1 deny deny 2 1 0 may 7 1 must 0 2 may 8 x"));
+        assert_eq!(row, Some("1 deny deny deny 2 1 0 may 7 1 must 0 2 may 8 x"));
         // A journal left over from one pair would not have room for the next.
         assert!(super::table(policy, b"a\ntrue\n").ends_with("\n1 deny deny 2 1 0\n"));
     }

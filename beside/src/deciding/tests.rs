@@ -47,6 +47,20 @@ fn padded(lines: &[String]) -> String {
 }
 
 #[test]
+fn names_can_be_looked_up_beforehand() {
+    let policy = b"kind a b c d e\nattr b - - - -\nattr a - - - -\nmust 1 2 - - -\n\
+        attr a - - - -\nor 1 4 - - -\nattr lacking - - - -\nor 5 6 - - -\npermit 7 3 - - -\n";
+    let policy = policy::parse(policy).unwrap();
+    let readings = readings::parse(b"a b\ntrue false\n7 true\n- true\nfalse !\n").unwrap();
+    for row in judgements(&policy, &readings) {
+        let looked_up = row.looked_up();
+        assert_eq!(looked_up.response(), row.response());
+        assert_eq!(looked_up.readings()[0], row.value(1));
+        assert_eq!(looked_up.readings()[3], row.value(4));
+    }
+}
+
+#[test]
 fn the_first_example() {
     let policy = "attr sub/role - - - -|text grower - - - -|equal 1 2 - - -|\
         attr res/valve - - - -|must 1 4 - - -|permit 3 5 - - -";

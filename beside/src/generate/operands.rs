@@ -279,7 +279,7 @@ mod tests {
         let answer = trial::answer(&case.policy, &case.readings);
         let row = answer.lines().nth(1).expect("one row");
         let words: Vec<&str> = row.split(' ').collect();
-        let [_, decision, _, _, _, _, duty @ ..] = &words[..] else {
+        let [_, decision, _, _, _, _, _, duty @ ..] = &words[..] else {
             panic!("too few words: {row}");
         };
         (*duty.last().unwrap_or(decision)).to_owned()

@@ -74,10 +74,7 @@ impl Pool {
 
     /// Readings with most of the names that the policy asks for, in any order.
     pub fn readings(&self, policy: &Table, rows: usize, random: &mut Random) -> Table {
-        let mut names: Vec<String> = Vec::new();
-        for line in policy.lines.iter().filter(|line| line[0] == b"attr") {
-            push_new(&mut names, String::from_utf8_lossy(&line[1]).into_owned());
-        }
+        let mut names = policy.names();
         names.retain(|_| random.chance(93));
         if names.is_empty() || random.chance(15) {
             push_new(&mut names, words::name(random.pick(&SORTS), random));
@@ -92,6 +89,12 @@ impl Pool {
             lines.push(cells.map(String::into_bytes).collect());
         }
         Table { lines }
+    }
+
+    /// A cell of the sort that this name mostly has.
+    pub fn usual_cell(&self, name: &str, random: &mut Random) -> String {
+        let sort = self.sort(name, random);
+        self.cell(sort, random)
     }
 
     fn sort(&self, name: &str, random: &mut Random) -> Sort {

@@ -1,5 +1,7 @@
 //! A file in the making: lines of words, where line 0 is the header or the names.
 
+use super::cells::push_new;
+
 pub type Word = Vec<u8>;
 
 #[derive(Clone, Debug)]
@@ -20,6 +22,22 @@ impl Table {
             bytes.push(b'\n');
         }
         bytes
+    }
+
+    /// What the lines of this kind have behind it, in their order.
+    pub fn words_of(&self, kind: &str) -> Vec<String> {
+        let lines = self.lines.iter().filter(|line| line[0] == kind.as_bytes());
+        let word = |line: &Vec<Word>| String::from_utf8_lossy(&line[1]).into_owned();
+        lines.map(word).collect()
+    }
+
+    /// The names that a policy asks for, each once.
+    pub fn names(&self) -> Vec<String> {
+        let mut names = Vec::new();
+        for name in self.words_of("attr") {
+            push_new(&mut names, name);
+        }
+        names
     }
 
     /// The number of the last line.

@@ -1,22 +1,29 @@
-// A stopwatch. `bench check FILE ROUNDS` times the check of a policy file, and prints the nanoseconds of all rounds
-// and the file's length. `bench decide FILE READINGS ROUNDS` times the answer to the first row, and prints the
-// nanoseconds and the number of policy lines. `bench enforce DUTIES ROUNDS` times the enforcement of a response with
-// so many duties on a switchboard, and prints the nanoseconds and the number of duties.
+// A stopwatch. Each job but the last prints the nanoseconds of all rounds, and a size:
+// `bench check FILE ROUNDS`, the check of a policy file, and its length;
+// `bench decide FILE READINGS ROUNDS`, the answer to the first row, and the number of policy lines;
+// `bench walk FILE READINGS ROUNDS`, the same with the row's readings looked up beforehand;
+// `bench quick FILE READINGS ROUNDS`, the flat pass over these readings;
+// `bench enforce DUTIES ROUNDS`, the enforcement of a response on a switchboard, and the number of its duties.
+// `bench conditions FILE READINGS` prints the condition lines of a policy, for a pass by another program.
 // With fewer than three arguments it does nothing.
 
 #![tactic(auto)]
 
 use combining::Decision;
+use compiling::{CONDITION_PLACES, Conditions, Fitted};
+use conditions::pass::Marks;
+use conditions::{Condition, Test};
 use deciding::{Answer, Evaluator};
 use enforcement::{Bias, enforce};
 use pair::{Pair, check_pair};
-use policy::{Force, Room};
+use policy::{Force, Operator, Room};
 use readings::{Row, TableRoom};
 use services::{Journal, PLACES, Switchboard, UNUSED, Valve, ValveBank};
+use std::alloc::{AllocError, Global};
 use std::time::Instant;
 use std::{env, fs};
 use trees::Duty;
-use values::Value;
+use values::{Text, Value};
 
 // Checks the file once, and gives the memory back.
 fn check_once(room: Room, file: &[u8]) -> Room {
@@ -84,6 +91,184 @@ fn time_decide(rt: &HostRuntime, path: &str, readings: &str, rounds: u32) -> any
         Ok(pair) => time_row(rt, &pair, rounds),
         Err(rejection) => anyhow::bail!("{rejection}"),
     }
+}
+
+// A policy with its conditions, and the evaluator that read the first row.
+#[derive(Drop)]
+struct Prepared {
+    fitted: Fitted,
+    evaluator: Evaluator,
+    answer: Answer,
+}
+
+fn fit(rt: &HostRuntime, path: &str, readings: &str) -> anyhow::Result<Prepared> {
+    let policy_file = fs::read(rt, path)?;
+    let readings_file = fs::read(rt, readings)?;
+    let room = Room::new(rt.alloc())?;
+    let table = TableRoom::new(rt.alloc())?;
+    let pair = match check_pair(
+        room,
+        table,
+        policy_file.as_slice(),
+        readings_file.as_slice(),
+    ) {
+        Ok(pair) => pair,
+        Err(rejection) => anyhow::bail!("{rejection}"),
+    };
+    let Pair { policy, readings } = pair;
+    let conditions = Conditions::new(rt.alloc(), CONDITION_PLACES)?;
+    let fitted = match conditions.fit(policy) {
+        Ok(fitted) => fitted,
+        Err(unfitted) => {
+            let rejection = unfitted.rejection;
+            anyhow::bail!("{rejection}")
+        }
+    };
+    let Some(row) = readings.row(0) else {
+        anyhow::bail!("the readings have no row");
+    };
+    let mut evaluator = Evaluator::new(rt.alloc())?;
+    let mut answer = Answer::new(rt.alloc())?;
+    fitted.respond_to_row(&row, &mut evaluator, &mut answer);
+    Ok(Prepared {
+        fitted,
+        evaluator,
+        answer,
+    })
+}
+
+fn operator_word(operator: Operator) -> &'static str {
+    match operator {
+        Operator::And => "and",
+        Operator::Or => "or",
+        Operator::Equal => "equal",
+        Operator::In => "in",
+        Operator::Greater => "greater",
+        Operator::Add => "add",
+        Operator::Sub => "sub",
+        Operator::Mul => "mul",
+        Operator::Div => "div",
+    }
+}
+
+fn test_word(test: Test) -> &'static str {
+    match test {
+        Test::True => "true",
+        Test::Absent => "absent",
+        Test::Other => "other",
+        Test::Fulfilled => "fulfilled",
+    }
+}
+
+fn text_string(heap: Global, text: Text) -> Result<String, AllocError> {
+    let mut string = String::new(heap);
+    for byte in text.as_bytes() {
+        string.push(char::from(*byte))?;
+    }
+    Ok(string)
+}
+
+fn print_condition(rt: &HostRuntime, condition: Condition) -> anyhow::Result<()> {
+    match condition {
+        Condition::Truth(truth) => println!(rt; "truth {truth}")?,
+        Condition::Reading(number) => println!(rt; "reading {number}")?,
+        Condition::Number(number) => println!(rt; "number {number}")?,
+        Condition::Text(text) => {
+            let text = text_string(rt.alloc(), text)?;
+            println!(rt; "text {text}")?
+        }
+        Condition::Not(j) => println!(rt; "not {j}")?,
+        Condition::Binary(operator, j, k) => {
+            let word = operator_word(operator);
+            println!(rt; "{word} {j} {k}")?
+        }
+        Condition::Test(test, j) => {
+            let word = test_word(test);
+            println!(rt; "test {word} {j}")?
+        }
+        Condition::Negation(j) => println!(rt; "negation {j}")?,
+        Condition::Both(j, k) => println!(rt; "both {j} {k}")?,
+        Condition::Either(j, k) => println!(rt; "either {j} {k}")?,
+    }
+    Ok(())
+}
+
+// The conditions of a policy, a line for each, and the marks, for a pass of another program.
+fn print_conditions(rt: &HostRuntime, path: &str, readings: &str) -> anyhow::Result<()> {
+    let prepared = fit(rt, path, readings)?;
+    let conditions = prepared.fitted.conditions();
+    for condition in conditions.lines() {
+        print_condition(rt, *condition)?;
+    }
+    let Marks {
+        permit,
+        deny,
+        not_applicable,
+        indeterminate,
+    } = conditions.marks();
+    println!(rt; "marks {permit} {deny} {not_applicable} {indeterminate}")?;
+    Ok(())
+}
+
+// Two copies of the readings in turn, so that no pass can be left out.
+fn quick_often(fitted: &Fitted, first: &[Value], second: &[Value], rounds: u32) -> u32 {
+    let mut permits = 0u32;
+    for round in 0..rounds {
+        let readings = if round % 2 == 0 { first } else { second };
+        if fitted.verdict(readings) == Decision::Permit {
+            permits = permits.wrapping_add(1);
+        }
+    }
+    permits
+}
+
+fn time_quick(rt: &HostRuntime, path: &str, readings: &str, rounds: u32) -> anyhow::Result<()> {
+    let prepared = fit(rt, path, readings)?;
+    let first = Vec::from_slice(rt.alloc(), prepared.evaluator.readings())?;
+    let second = Vec::from_slice(rt.alloc(), prepared.evaluator.readings())?;
+    let start = Instant::now(rt)?;
+    let permits = quick_often(
+        &prepared.fitted,
+        first.as_slice(),
+        second.as_slice(),
+        rounds,
+    );
+    let nanos = start.elapsed(rt)?.as_nanos();
+    if permits > rounds {
+        anyhow::bail!("more permits than passes");
+    }
+    let lines = prepared.fitted.policy().lines().len();
+    println!(rt; "{nanos} {lines}")?;
+    Ok(())
+}
+
+fn walk_often(
+    fitted: &Fitted,
+    readings: &[Value],
+    evaluator: &mut Evaluator,
+    answer: &mut Answer,
+    rounds: u32,
+) {
+    for _ in 0..rounds {
+        evaluator.respond(fitted.policy(), readings, answer);
+    }
+}
+
+fn time_walk(rt: &HostRuntime, path: &str, readings: &str, rounds: u32) -> anyhow::Result<()> {
+    let mut prepared = fit(rt, path, readings)?;
+    let readings = Vec::from_slice(rt.alloc(), prepared.evaluator.readings())?;
+    let start = Instant::now(rt)?;
+    walk_often(
+        &prepared.fitted,
+        readings.as_slice(),
+        &mut prepared.evaluator,
+        &mut prepared.answer,
+        rounds,
+    );
+    let nanos = start.elapsed(rt)?.as_nanos();
+    let lines = prepared.fitted.policy().lines().len();
+    println!(rt; "{nanos} {lines}")?;
+    Ok(())
 }
 
 // `may` duties, of all actions in turn.
@@ -159,13 +344,26 @@ fn main(rt: HostRuntime) -> anyhow::Result<()> {
             second.as_str(),
             rounds.as_str().parse::<u32>()?,
         ),
+        ("quick", Some(rounds)) => time_quick(
+            &rt,
+            first.as_str(),
+            second.as_str(),
+            rounds.as_str().parse::<u32>()?,
+        ),
+        ("walk", Some(rounds)) => time_walk(
+            &rt,
+            first.as_str(),
+            second.as_str(),
+            rounds.as_str().parse::<u32>()?,
+        ),
+        ("conditions", None) => print_conditions(&rt, first.as_str(), second.as_str()),
         ("enforce", None) => time_enforce(
             &rt,
             first.as_str().parse::<u32>()?,
             second.as_str().parse::<u32>()?,
         ),
         _ => anyhow::bail!(
-            "usage: bench check FILE ROUNDS, bench decide FILE READINGS ROUNDS or bench enforce DUTIES ROUNDS"
+            "usage: bench check FILE ROUNDS, bench decide, walk or quick FILE READINGS ROUNDS, bench enforce DUTIES ROUNDS or bench conditions FILE READINGS"
         ),
     }
 }

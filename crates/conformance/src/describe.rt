@@ -1,11 +1,13 @@
 // A line that says what was read, and a line with the response to each row and what enforcing it comes to.
 
 use crate::words::add_duties;
+use combining::Decision;
+use compiling::{CONDITION_PLACES, Conditions, Fitted};
 use deciding::{Answer, Evaluator};
 use enforcement::{Bias, enforce};
 use pair::{Pair, check_pair};
 use policy::{Family, Line, Policy, Room};
-use readings::TableRoom;
+use readings::{Readings, TableRoom};
 use services::{Journal, PLACES, UNUSED};
 use std::alloc::{AllocError, Global};
 use values::Value;
@@ -81,10 +83,11 @@ fn accepted(heap: Global, pair: &Pair) -> Result<String, AllocError> {
     format!(in heap; "accepted {lines} {names} {rows} {families} {cells} {sum}")
 }
 
-// What the trial program prints of a row, and the duties.
+// A row's number, the decisions of the tree and of the flat pass, what the trial program prints of enforcing, and the duties.
 fn responded(
     heap: Global,
     number: usize,
+    flat: Decision,
     answer: &Answer,
     journal: &mut Journal,
 ) -> Result<String, AllocError> {
@@ -95,25 +98,43 @@ fn responded(
         answer.duties(),
         journal,
     );
-    let mut line = format!(in heap; "{number} {decision} {enforced} {carried} {failed} {skipped}")?;
+    let mut line = format!(in heap;
+        "{number} {decision} {flat} {enforced} {carried} {failed} {skipped}"
+    )?;
     add_duties(heap, answer.duties(), &mut line)?;
     Ok(line)
 }
 
 // Adds a line for each row. One journal takes the duties of all rows.
-fn add_responses(heap: Global, pair: &Pair, lines: &mut String) -> Result<(), AllocError> {
+fn add_responses(
+    heap: Global,
+    fitted: &Fitted,
+    readings: &Readings,
+    lines: &mut String,
+) -> Result<(), AllocError> {
     let mut evaluator = Evaluator::new(heap)?;
     let mut answer = Answer::new(heap)?;
     let mut entries = [UNUSED; PLACES];
     let Ok(mut journal) = Journal::lay(&mut entries[..]) else {
         return lines.push_str("\nno journal");
     };
-    for (number, row) in (1..=pair.readings.row_count()).zip(pair.readings.rows()) {
-        evaluator.respond_to_row(&pair.policy, &row, &mut answer);
+    for (number, row) in (1..=readings.row_count()).zip(readings.rows()) {
+        let flat = fitted.respond_to_row(&row, &mut evaluator, &mut answer);
         lines.push('\n')?;
-        lines.push_str(responded(heap, number, &answer, &mut journal)?.as_str())?;
+        lines.push_str(responded(heap, number, flat, &answer, &mut journal)?.as_str())?;
     }
     Ok(())
+}
+
+// What was accepted, and a line for each row.
+fn described(heap: Global, pair: Pair) -> Result<String, AllocError> {
+    let mut lines = accepted(heap, &pair)?;
+    let Pair { policy, readings } = pair;
+    match Conditions::new(heap, CONDITION_PLACES)?.fit(policy) {
+        Ok(fitted) => add_responses(heap, &fitted, &readings, &mut lines)?,
+        Err(_) => lines.push_str("\nno places")?,
+    }
+    Ok(lines)
 }
 
 // The answer to a pair of files.
@@ -123,9 +144,7 @@ pub(crate) fn answer(heap: Global, policy: &[u8], readings: &[u8]) -> Result<Str
     match check_pair(room, table, policy, readings) {
         Ok(pair) => {
             if comes_back(heap, &pair.policy, policy)? {
-                let mut lines = accepted(heap, &pair)?;
-                add_responses(heap, &pair, &mut lines)?;
-                Ok(lines)
+                described(heap, pair)
             } else {
                 String::from_str(heap, "does not come back")
             }

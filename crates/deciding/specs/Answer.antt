@@ -1,5 +1,6 @@
 -- The answer of a whole policy.
-use Rattle.std.specs.Prelude.{ℕ, ◌≤◌, vec_items, vec_len, vec_capacity}
+use Rattle.std.specs.Prelude.{ℕ, ◌≤◌, List, vec_items, vec_len, vec_capacity}
+use Rattle.values.specs.declared.value.Value.{Value}
 use Rattle.combining.specs.Combined.{Response}
 use Rattle.trees.specs.declared.duty.Duty.{Duty}
 use Rattle.deciding.specs.declared.response.Answer.{Answer}
@@ -21,6 +22,10 @@ memory_places m = (vec_capacity m.numbers, vec_capacity m.children)
 -- how many line numbers, readings and children an evaluator has places for
 abbrev pub places : Evaluator → ℕ × ℕ × ℕ
 places e = (vec_capacity e.memory.numbers, vec_len e.readings, vec_capacity e.memory.children)
+
+-- the readings that an evaluator holds: the first is what line 1 read
+abbrev pub readings_in : Evaluator → List Value
+readings_in e = vec_items e.readings
 
 -- enough for every accepted policy
 abbrev pub Enough : ℕ × ℕ × ℕ → Type 0

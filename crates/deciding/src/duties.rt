@@ -30,7 +30,7 @@ impl Known<'_> {
             None => true,
             Some(number) => match self.line(number) {
                 Line::Duty(_, _, argument, earlier) => {
-                    self.all_fulfilled(earlier) && is_fulfilled(&self.value(argument))
+                    self.all_fulfilled(earlier) && is_fulfilled(self.value(argument))
                 }
                 _ => true,
             },
@@ -60,7 +60,7 @@ impl Known<'_> {
         let place = usize::from(number).saturating_sub(1);
         if let Some(line) = self.lines.get(place) {
             if let Line::Duty(force, action, argument, _) = *line {
-                let argument = self.value(argument);
+                let argument = self.value(argument).value();
                 return Duty {
                     force,
                     action,

@@ -28,6 +28,15 @@ impl Known<'_> {
         self.lines[usize::from(number) - 1]
     }
 
+    // The same line, lent: a copy would copy a text too.
+    pub(crate) fn line_ref(&self, number: LineNumber) -> &Line
+        requires low { 0 < number }
+        requires high { number ≤ length self.now.lines.now }
+        ensures { result.now ≡ line_at self.now.lines.now number }
+    {
+        &self.lines[usize::from(number) - 1]
+    }
+
     // The number of the last line; a tree has at most 256 lines, so the cast loses nothing.
     pub(crate) fn last(&self) -> LineNumber
         ensures { result ≡ length self.now.lines.now }

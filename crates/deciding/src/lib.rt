@@ -14,7 +14,7 @@ mod memory;
 mod respond;
 pub mod response;
 mod taken;
-mod value;
+pub mod value;
 
 pub use evaluator::Evaluator;
 pub use response::Answer;

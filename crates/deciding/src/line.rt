@@ -1,6 +1,7 @@
 // The response of one line's policy, by the responses kept of the lines above it.
 
 ghost use Rattle.std.specs.Prelude.{◌≡◌, ◌<◌, ◌≤◌};
+ghost use Rattle.operators.specs.Operands.{seen};
 ghost use Rattle.combining.specs.Combined.{Response};
 ghost use Rattle.trees.specs.declared.duty.Duty.{Duty};
 ghost use Rattle.trees.specs.Policies.{decision_for, on_target};
@@ -15,17 +16,17 @@ use crate::known::Known;
 use crate::memory::Memory;
 use crate::taken::Taken;
 use combining::Decision;
+use operators::Operand;
 use policy::{Effect, Line, LineNumber};
 use spelling::algorithm::Combining;
-use values::Value;
 
 // What a target decides by itself; none where it is true.
-fn ended_by(target: &Value) -> Option<Decision>
-    ensures { (x : Response Duty) → on_target target.now x ≡ ended_by result x }
+fn ended_by(target: Operand<'_>) -> Option<Decision>
+    ensures { (x : Response Duty) → on_target (seen target.entry) x ≡ ended_by result x }
 {
     match target {
-        Value::Bool(true) => None,
-        Value::Bool(false) | Value::Missing => Some(Decision::NotApplicable),
+        Operand::Bool(true) => None,
+        Operand::Bool(false) | Operand::Missing => Some(Decision::NotApplicable),
         _ => Some(Decision::Indeterminate),
     }
 }
@@ -78,7 +79,7 @@ impl Memory {
         match known.line(number) {
             Line::Rule(effect, target, duty) => {
                 let target = known.value(target);
-                match ended_by(&target) {
+                match ended_by(target) {
                     Some(decision) => decision,
                     None => {
                         let taken = Taken {
@@ -92,7 +93,7 @@ impl Memory {
             }
             Line::Set(combining, target, items, on_permit, on_deny) => {
                 let target = known.value(target);
-                match ended_by(&target) {
+                match ended_by(target) {
                     Some(decision) => decision,
                     None => {
                         let own = OwnDuties { on_permit, on_deny };

@@ -9,7 +9,7 @@ ghost use Rattle.trees.specs.Policies.{respond as respond_of};
 ghost use Rattle.trees.specs.Parts.{policy_of};
 ghost use Rattle.trees.specs.AllVisited.{all_visited};
 ghost use Rattle.trees.specs.Known.{Reads, known_policy, nothing};
-ghost use Rattle.deciding.specs.Answer.{response_of, answer_places, places, Enough};
+ghost use Rattle.deciding.specs.Answer.{response_of, answer_places, places, readings_in, Enough};
 
 use crate::evaluator::Evaluator;
 use crate::known::Known;
@@ -86,10 +86,18 @@ impl Evaluator {
         self.memory.respond(&known, answer);
     }
 
+    // What the attr lines read last, by line number; the other places hold what was there before.
+    pub fn readings(&self) -> &[Value]
+        ensures { result.now ≡ readings_in self.now }
+    {
+        self.readings.as_slice()
+    }
+
     // Answers by a row of a readings file.
     pub fn respond_to_row(&mut self, policy: &Policy, row: &Row, answer: &mut Answer)
         ensures responds { response_of answer.new ≡ respond_of (map_in row.now) (policy_of (lines_of policy.now)) }
         ensures greedy { Fewer (response_of answer.new) (respond_of (map_in row.now) (all_visited (policy_of (lines_of policy.now)))) }
+        ensures read { Reads (lines_of policy.now) (readings_in self.new) (map_in row.now) }
         ensures same { answer_places answer.new ≡ answer_places answer.old }
         ensures places { places self.new ≡ places self.old }
     {

@@ -1,20 +1,20 @@
 // The value of an expression.
 
 ghost use Rattle.std.specs.Prelude.{◌≡◌, ◌<◌, ◌≤◌};
+ghost use Rattle.operators.specs.Operands.{seen, given};
 ghost use Rattle.trees.specs.Expressions.{applied};
 ghost use Rattle.trees.specs.Duties.{fulfils};
 ghost use Rattle.trees.specs.Known.{read_at};
 ghost use Rattle.deciding.specs.Known.{size, value_at};
 
 use crate::known::Known;
-use operators::{add, and, div, equal, greater, member, mul, not, or, sub};
+use operators::{Operand, Outcome, add, and, div, equal, greater, member, mul, not, or, sub};
 use policy::{Line, LineNumber, Operator};
-use values::Value;
 
 // A match and no table of functions: the compiler asks for an arm where an operator is added.
 #[tactic(auto, unfolding(trees::specs::Expressions::applied))]
-fn apply(operator: Operator, a: &Value, b: &Value) -> Value
-    ensures { result ≡ applied operator a.now b.now }
+pub fn apply(operator: Operator, a: Operand<'_>, b: Operand<'_>) -> Outcome
+    ensures { given result ≡ applied operator (seen a.entry) (seen b.entry) }
 {
     match operator {
         Operator::And => and(a, b),
@@ -29,42 +29,45 @@ fn apply(operator: Operator, a: &Value, b: &Value) -> Value
     }
 }
 
-pub(crate) fn is_fulfilled(argument: &Value) -> bool
-    ensures { result ≡ fulfils argument.now }
+pub fn is_fulfilled(argument: Operand<'_>) -> bool
+    ensures { result ≡ fulfils (seen argument.entry) }
 {
-    matches!(argument, Value::Bool(_) | Value::Number(_) | Value::Text(_))
+    matches!(
+        argument,
+        Operand::Bool(_) | Operand::Number(_) | Operand::Text(_)
+    )
 }
 
 impl Known<'_> {
     // What line `number` read.
-    fn reading(&self, number: LineNumber) -> Value
+    fn reading(&self, number: LineNumber) -> Operand<'_>
         requires { 0 < number }
-        ensures { result ≡ read_at self.now.readings.now number }
+        ensures { seen result ≡ read_at self.now.readings.now number }
     {
         match self.readings.get(usize::from(number) - 1) {
-            Some(reading) => *reading,
-            None => Value::Missing,
+            Some(reading) => Operand::of(reading),
+            None => Operand::Missing,
         }
     }
 
     // The value of the expression at line `number`.
-    pub(crate) fn value(&self, number: LineNumber) -> Value
+    pub(crate) fn value(&self, number: LineNumber) -> Operand<'_>
         requires low { 0 < number }
         requires high { number ≤ size self.now }
-        ensures { result ≡ value_at self.now number }
+        ensures { seen result ≡ value_at self.now number }
     {
-        match self.line(number) {
-            Line::Truth(truth) => Value::Bool(truth),
+        match self.line_ref(number) {
+            Line::Truth(truth) => Operand::Bool(*truth),
             Line::Attribute(_) => self.reading(number),
-            Line::Number(x) => Value::Number(x),
-            Line::Text(text) => Value::Text(text),
-            Line::Not(operand) => not(&self.value(operand)),
+            Line::Number(x) => Operand::Number(*x),
+            Line::Text(text) => Operand::Text(text),
+            Line::Not(j) => not(self.value(*j)).operand(),
             Line::Binary(operator, left, right) => {
-                let left = self.value(left);
-                let right = self.value(right);
-                apply(operator, &left, &right)
+                let left = self.value(*left);
+                let right = self.value(*right);
+                apply(*operator, left, right).operand()
             }
-            _ => Value::Error,
+            _ => Operand::Error,
         }
     }
 }

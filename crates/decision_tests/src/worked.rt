@@ -2,22 +2,20 @@
 
 use combining::Decision;
 use combining::combine::combine;
-use operators::{and, div, not};
+use operators::{Operand, Outcome, and, div, not};
 use spelling::algorithm::{Algorithm, Strategy};
 use std::alloc::Global;
 use std::test::Fail;
-use values::Value;
 
 const LEAST: i32 = -2147483648;
 
-// A value in a word; nothing else prints values, so there is no Display for them.
-fn word(heap: Global, value: Value) -> Result<String, Fail> {
-    match value {
-        Value::Missing => Ok(String::from_str(heap, "missing")?),
-        Value::Error => Ok(String::from_str(heap, "error")?),
-        Value::Bool(truth) => Ok(format!(in heap; "{truth}")?),
-        Value::Number(x) => Ok(format!(in heap; "{x}")?),
-        _ => Ok(String::from_str(heap, "text or set")?),
+// An outcome in a word; nothing else prints outcomes, so there is no Display for them.
+fn word(heap: Global, outcome: Outcome) -> Result<String, Fail> {
+    match outcome {
+        Outcome::Missing => Ok(String::from_str(heap, "missing")?),
+        Outcome::Error => Ok(String::from_str(heap, "error")?),
+        Outcome::Bool(truth) => Ok(format!(in heap; "{truth}")?),
+        Outcome::Number(x) => Ok(format!(in heap; "{x}")?),
     }
 }
 
@@ -25,15 +23,15 @@ fn word(heap: Global, value: Value) -> Result<String, Fail> {
 fn values(rt: HostRuntime) -> Result<(), Fail> {
     let heap = rt.alloc();
     let cases = [
-        ("false", and(&Value::Bool(false), &Value::Error)),
-        ("missing", and(&Value::Bool(true), &Value::Missing)),
-        ("missing", not(&Value::Missing)),
-        ("-3", div(&Value::Number(-7), &Value::Number(2))),
-        ("error", div(&Value::Number(LEAST), &Value::Number(-1))),
-        ("error", div(&Value::Number(1), &Value::Number(0))),
+        ("false", and(Operand::Bool(false), Operand::Error)),
+        ("missing", and(Operand::Bool(true), Operand::Missing)),
+        ("missing", not(Operand::Missing)),
+        ("-3", div(Operand::Number(-7), Operand::Number(2))),
+        ("error", div(Operand::Number(LEAST), Operand::Number(-1))),
+        ("error", div(Operand::Number(1), Operand::Number(0))),
     ];
-    for (expected, value) in cases {
-        let found = word(heap, value)?;
+    for (expected, outcome) in cases {
+        let found = word(heap, outcome)?;
         assert!(rt; found.as_str() == expected, "{}", expected);
     }
     Ok(())

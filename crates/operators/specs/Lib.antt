@@ -1,3 +1,4 @@
+pub mod Operands
 pub mod Arithmetic
 pub mod Classes
 pub mod Operators

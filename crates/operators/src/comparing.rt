@@ -1,40 +1,41 @@
 // The operators that compare: `equal`, `member` for `in`, and `greater`.
 
 ghost use Rattle.std.specs.Prelude.{◌≡◌};
+ghost use Rattle.operators.specs.Operands.{seen, given};
 ghost use Rattle.operators.specs.Operators.{equal_of, in_of, greater_of};
 
+use crate::operand::{Operand, Outcome};
 use crate::sides::not_taken;
-use values::Value;
 
 // Booleans, numbers and texts, each with its like; no other pair can be compared, so this is not `==` on values.
 #[tactic(auto, using(crate::proofs::Among::same_text))]
-pub fn equal(a: &Value, b: &Value) -> Value
-    ensures { result ≡ equal_of a.now b.now }
+pub fn equal(a: Operand<'_>, b: Operand<'_>) -> Outcome
+    ensures { given result ≡ equal_of (seen a.entry) (seen b.entry) }
 {
     match (a, b) {
-        (Value::Bool(x), Value::Bool(y)) => Value::Bool(*x == *y),
-        (Value::Number(x), Value::Number(y)) => Value::Bool(*x == *y),
-        (Value::Text(x), Value::Text(y)) => Value::Bool(*x == *y),
+        (Operand::Bool(x), Operand::Bool(y)) => Outcome::Bool(x == y),
+        (Operand::Number(x), Operand::Number(y)) => Outcome::Bool(x == y),
+        (Operand::Text(x), Operand::Text(y)) => Outcome::Bool(*x == *y),
         _ => not_taken(a, b),
     }
 }
 
 // A number in a set of numbers, or a text in a set of texts; no other pair is allowed.
-pub fn member(a: &Value, b: &Value) -> Value
-    ensures { result ≡ in_of a.now b.now }
+pub fn member(a: Operand<'_>, b: Operand<'_>) -> Outcome
+    ensures { given result ≡ in_of (seen a.entry) (seen b.entry) }
 {
     match (a, b) {
-        (Value::Number(x), Value::Numbers(s)) => Value::Bool(s.as_slice().contains(x)),
-        (Value::Text(x), Value::Texts(s)) => Value::Bool(s.as_slice().contains(x)),
+        (Operand::Number(x), Operand::Numbers(s)) => Outcome::Bool(s.as_slice().contains(&x)),
+        (Operand::Text(x), Operand::Texts(s)) => Outcome::Bool(s.as_slice().contains(x)),
         _ => not_taken(a, b),
     }
 }
 
-pub fn greater(a: &Value, b: &Value) -> Value
-    ensures { result ≡ greater_of a.now b.now }
+pub fn greater(a: Operand<'_>, b: Operand<'_>) -> Outcome
+    ensures { given result ≡ greater_of (seen a.entry) (seen b.entry) }
 {
     match (a, b) {
-        (Value::Number(x), Value::Number(y)) => Value::Bool(x > y),
+        (Operand::Number(x), Operand::Number(y)) => Outcome::Bool(x > y),
         _ => not_taken(a, b),
     }
 }

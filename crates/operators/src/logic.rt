@@ -1,35 +1,38 @@
 // The operators on truth values: `and`, `or` and `not`.
 
 ghost use Rattle.std.specs.Prelude.{◌≡◌};
+ghost use Rattle.operators.specs.Operands.{seen, given};
 ghost use Rattle.operators.specs.Operators.{and_of, or_of, not_of};
 
-use values::Value;
+use crate::operand::{Operand, Outcome};
 
 // One false side settles it, whatever the other is; missing is not false, since it may turn out true.
-pub fn and(a: &Value, b: &Value) -> Value
-    ensures { result ≡ and_of a.now b.now }
+pub fn and(a: Operand<'_>, b: Operand<'_>) -> Outcome
+    ensures { given result ≡ and_of (seen a.entry) (seen b.entry) }
 {
     match (a, b) {
-        (Value::Bool(false), _) | (_, Value::Bool(false)) => Value::Bool(false),
-        (Value::Bool(true), Value::Bool(true)) => Value::Bool(true),
-        (Value::Missing | Value::Bool(true), Value::Missing | Value::Bool(true)) => Value::Missing,
-        _ => Value::Error,
+        (Operand::Bool(false), _) | (_, Operand::Bool(false)) => Outcome::Bool(false),
+        (Operand::Bool(true), Operand::Bool(true)) => Outcome::Bool(true),
+        (Operand::Missing | Operand::Bool(true), Operand::Missing | Operand::Bool(true)) => {
+            Outcome::Missing
+        }
+        _ => Outcome::Error,
     }
 }
 
 // One true side settles it: `and` with true and false exchanged, which `not` does; missing and error stay.
-pub fn or(a: &Value, b: &Value) -> Value
-    ensures { result ≡ or_of a.now b.now }
+pub fn or(a: Operand<'_>, b: Operand<'_>) -> Outcome
+    ensures { given result ≡ or_of (seen a.entry) (seen b.entry) }
 {
-    not(&and(&not(a), &not(b)))
+    not(and(not(a).operand(), not(b).operand()).operand())
 }
 
-pub fn not(a: &Value) -> Value
-    ensures { result ≡ not_of a.now }
+pub fn not(a: Operand<'_>) -> Outcome
+    ensures { given result ≡ not_of (seen a.entry) }
 {
     match a {
-        Value::Missing => Value::Missing,
-        Value::Bool(x) => Value::Bool(!*x),
-        _ => Value::Error,
+        Operand::Missing => Outcome::Missing,
+        Operand::Bool(x) => Outcome::Bool(!x),
+        _ => Outcome::Error,
     }
 }

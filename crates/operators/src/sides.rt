@@ -2,17 +2,18 @@
 
 ghost use Rattle.std.specs.Prelude.{◌≡◌};
 ghost use Rattle.values.specs.declared.value.Value.TheVariants.{Error as error};
+ghost use Rattle.operators.specs.Operands.{seen, given};
 ghost use Rattle.operators.specs.Operators.{strict};
 
-use values::Value;
+use crate::operand::{Operand, Outcome};
 
 // An error on one side counts more than missing on the other; whatever else is not taken is an error.
-pub fn not_taken(a: &Value, b: &Value) -> Value
-    ensures { result ≡ strict a.now b.now error }
+pub fn not_taken(a: Operand<'_>, b: Operand<'_>) -> Outcome
+    ensures { given result ≡ strict (seen a.entry) (seen b.entry) error }
 {
     match (a, b) {
-        (Value::Error, _) | (_, Value::Error) => Value::Error,
-        (Value::Missing, _) | (_, Value::Missing) => Value::Missing,
-        _ => Value::Error,
+        (Operand::Error, _) | (_, Operand::Error) => Outcome::Error,
+        (Operand::Missing, _) | (_, Operand::Missing) => Outcome::Missing,
+        _ => Outcome::Error,
     }
 }

@@ -2,11 +2,12 @@
 
 #![tactic(auto)]
 
+use compiling::{CONDITION_PLACES, Conditions, Fitted};
 use deciding::{Answer, Evaluator};
 use enforcement::{Bias, enforce};
 use pair::{Pair, check_pair};
 use policy::Room;
-use readings::TableRoom;
+use readings::{Readings, TableRoom};
 use services::{Journal, PLACES, UNUSED};
 use std::fs;
 use std::rt::Files;
@@ -17,7 +18,8 @@ fn file_bytes(rt: &HostRuntime, path: &str) -> Vec<u8> {
 }
 
 // The table: the names of its columns, and a line for each row. One journal takes the duties of all rows.
-fn print_rows(rt: &HostRuntime, pair: &Pair) -> anyhow::Result<()> {
+// The decision printed is the flat pass's, and the response enforced is the tree's.
+fn print_rows(rt: &HostRuntime, fitted: &Fitted, readings: &Readings) -> anyhow::Result<()> {
     let mut evaluator = Evaluator::new(rt.alloc())?;
     let mut answer = Answer::new(rt.alloc())?;
     let mut entries = [UNUSED; PLACES];
@@ -31,12 +33,11 @@ fn print_rows(rt: &HostRuntime, pair: &Pair) -> anyhow::Result<()> {
         }
     };
     println!(rt; "row decision enforced carried failed skipped")?;
-    for (number, row) in (1..=pair.readings.row_count()).zip(pair.readings.rows()) {
-        evaluator.respond_to_row(&pair.policy, &row, &mut answer);
-        let decision = answer.decision();
+    for (number, row) in (1..=readings.row_count()).zip(readings.rows()) {
+        let decision = fitted.respond_to_row(&row, &mut evaluator, &mut answer);
         let (enforced, carried, failed, skipped) = enforce(
             Bias::Base,
-            decision,
+            answer.decision(),
             answer.duties(),
             &mut journal,
         );
@@ -45,13 +46,28 @@ fn print_rows(rt: &HostRuntime, pair: &Pair) -> anyhow::Result<()> {
     Ok(())
 }
 
+// Compiles the policy and prints the rows.
+fn decide(rt: &HostRuntime, pair: Pair) -> anyhow::Result<()> {
+    let Pair { policy, readings } = pair;
+    let conditions = Conditions::new(rt.alloc(), CONDITION_PLACES)?;
+    match conditions.fit(policy) {
+        Ok(fitted) => print_rows(rt, &fitted, &readings),
+        // Never with so many places; it is here since a policy may be fitted into memory of any length.
+        Err(unfitted) => {
+            let rejection = unfitted.rejection;
+            println!(rt; "{rejection}")?;
+            Ok(())
+        }
+    }
+}
+
 fn main(rt: HostRuntime) -> anyhow::Result<()> {
     let policy = file_bytes(&rt, "policy.txt");
     let readings = file_bytes(&rt, "readings.txt");
     let room = Room::new(rt.alloc())?;
     let table = TableRoom::new(rt.alloc())?;
     match check_pair(room, table, policy.as_slice(), readings.as_slice()) {
-        Ok(pair) => print_rows(&rt, &pair)?,
+        Ok(pair) => decide(&rt, pair)?,
         Err(rejection) => println!(rt; "{rejection}")?,
     }
     Ok(())

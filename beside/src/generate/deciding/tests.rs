@@ -61,7 +61,7 @@ fn every_decision_is_well_represented() {
 #[test]
 fn every_way_of_combining_is_at_the_root_and_nested() {
     let pairs = parsed(&cases());
-    let survey = Survey::of_policies(pairs.iter().map(|pair| &pair.0));
+    let survey = Survey::of_pairs(&pairs);
     assert_eq!(survey.combinings.len(), 16);
     for uses in survey.combinings.values() {
         assert!(

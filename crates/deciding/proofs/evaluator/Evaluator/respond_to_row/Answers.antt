@@ -19,4 +19,4 @@ returns c =
     let e : response_of c.respond.new.answer ≡ respond nothing (known_policy ls vs) = c.respond.ensures.answer
     ∙ ap (λ (us : List Value). respond nothing (known_policy c.lines-lines.result.now us)) c.as_slice.ensures.value
     ∙ ap (λ (xs : List Line). respond nothing (known_policy xs vs)) c.lines-lines.ensures.value in
-    record { responds = by_map ls vs m r _ e; greedy = fewer_by_map ls vs m r _ e; same = search rules; places = search rules }
+    record { responds = by_map ls vs m r _ e; greedy = fewer_by_map ls vs m r _ e; read = r; same = search rules; places = search rules }

@@ -9,7 +9,7 @@ use Rattle.deciding.proofs.known.Known.duty_at.Goals.{in-Some+in_default-line, i
 pub returns-in-Duty : goal.returns-in-Duty
 returns-in-Duty c =
     let f : l.Duty c.in-Duty.force c.in-Duty.action c.in-Duty.argument c.in-Duty.field-3 ≡ line_of c.args.self.now c.args.number = grind (arith, common_steps) in
-    ap (due c.in-Duty.force c.in-Duty.action) c.value-argument.ensures ∙ sym (due-is c.args.self.now c.args.number _ f)
+    ap (due c.in-Duty.force c.in-Duty.action) (c.value-argument.ensures ∙ c.value.ensures) ∙ sym (due-is c.args.self.now c.args.number _ f)
 
 pub returns : goal.returns
 returns c = elim c.match-get.branch [

@@ -1,5 +1,5 @@
 -- Compiled conditions: which decision they name, and what compiling leaves.
-use Rattle.std.specs.Prelude.{◌≡◌, ℕ, ◌*◌, ◌≤◌, Bool, cond, List, map, Ok, Err, Result, nat_le}
+use Rattle.std.specs.Prelude.{◌≡◌, ℕ, ◌*◌, ◌<◌, ◌≤◌, Bool, cond, List, map, Ok, Err, Result, nat_le}
 use Rattle.values.specs.declared.value.Value.{Value}
 use Rattle.values.specs.declared.value.Value.TheVariants.{Missing as missing}
 use Rattle.refusals.specs.declared.cause.Cause.TheVariants.{TooSmall}
@@ -41,8 +41,9 @@ readings_by m ls = map (λ (x : Line). wanted m x missing) ls
 abbrev pub compiles : ℕ → ℕ → Result (Unit {0}) Rejection
 compiles places n = cond (nat_le (32 * n) places) (Ok tt) (Err (record { cause = TooSmall; line = 0; field = 0 }))
 
--- b has the conditions of n lines in the places of a: at most 32 a line are written, and the others hold what they held
+-- b has the conditions of n lines in the places of a: at most 32 a line are written, the marked ones among them, and the others hold what they held
 pub record Compiled (n : ℕ) (a b : Conditions) : Type 0 where
   pub few : written_in b ≤ 32 * n
   pub places : places_of b ≡ places_of a
+  pub marked : (d : Decision) → mark_of b.marks d < written_in b
   pub others : (k : ℕ) → written_in b ≤ k → condition_at b k ≡ condition_at a k

@@ -89,6 +89,7 @@ impl Places {
         requires room { Roomy self.old 4 }
         requires decision { AllInside self.old decision }
         ensures grows { Grows self.old self.new 4 }
+        ensures within { (d : Decided) → mark_of result d < self.new.used }
         ensures marks { (readings : List Valued) (d : Decided) → true_of (value_in self.new readings (mark_of result d)) ≡ holds self.old readings (truth_at decision (decision_place d)) }
     {
         let permit = self.line_for(decision[0]);

@@ -126,23 +126,23 @@ pub fn judgements<'a>(
 ) -> impl Iterator<Item = Judgement<'a>> {
     let names = &readings.names;
     let row = move |cells| Row { names, cells };
-    readings.rows.iter().map(move |cells| Judgement {
-        policy,
-        readings: row(cells),
-    })
+    let rows = readings.rows.iter();
+    rows.map(move |cells| Judgement::over(policy, row(cells)))
 }
 
-impl<'a> Judgement<'a> {
+impl<'a, L: Lookup<'a>> Judgement<'a, L> {
+    pub fn over(policy: &'a Policy, readings: L) -> Self {
+        Judgement { policy, readings }
+    }
+
     /// The same with every name looked up beforehand.
     pub fn looked_up(&self) -> Judgement<'a, ByLine<'a>> {
         let value = |(line, number): (&Line, LineNumber)| match line {
             Line::Attr(name) => self.readings.reading(number, name),
             _ => Operand::Missing,
         };
-        Judgement {
-            policy: self.policy,
-            readings: ByLine(self.policy.lines.iter().zip(1..).map(value).collect()),
-        }
+        let readings = self.policy.lines.iter().zip(1..).map(value).collect();
+        Judgement::over(self.policy, ByLine(readings))
     }
 }
 

@@ -4,10 +4,11 @@
 use crate::combining::Decision;
 use crate::enforcement::{enforce, Bias};
 use crate::line::Force;
+use crate::readings::{self, Readings};
 use crate::services::{Duty, Journal, Service, Switchboard, ValveBank};
 use crate::sources::{Before, Row, Sensor, SensorBank, Source, SENSORS};
 use crate::value::Value;
-use crate::{policy, readings, spelling};
+use crate::{policy, spelling};
 
 /// The lines that a case gives, or none if it is misspelt.
 pub fn answer(case: &[String]) -> Option<Vec<String>> {
@@ -63,20 +64,20 @@ fn exchanged(lines: &[String]) -> Option<Vec<String>> {
     Some([answers, state].concat())
 }
 
-fn latest(service: &impl Service) -> String {
+pub(crate) fn latest(service: &impl Service) -> String {
     match service.latest() {
         Some(duty) => format!("latest {duty}"),
         None => "latest -".to_owned(),
     }
 }
 
-fn entries(journal: &Journal) -> String {
+pub(crate) fn entries(journal: &Journal) -> String {
     let entry = |duty: &Duty| format!(" {duty}");
     let entries: String = journal.entries().iter().map(entry).collect();
     format!("entries{entries}")
 }
 
-fn valves(bank: &ValveBank) -> String {
+pub(crate) fn valves(bank: &ValveBank) -> String {
     let positions = bank.positions().map(|position| position.to_string());
     format!("valves {}", positions.join(" "))
 }
@@ -114,14 +115,8 @@ fn from_sensors(lines: &[String]) -> Option<Vec<String>> {
 }
 
 fn from_both(lines: &[String]) -> Option<Vec<String>> {
-    let [names, cells, rest @ ..] = lines else {
-        return None;
-    };
-    let readings = readings::parse(format!("{names}\n{cells}\n").as_bytes()).ok()?;
-    let row = Row {
-        names: &readings.names,
-        cells: &readings.rows[0],
-    };
+    let (readings, rest) = one_row(lines)?;
+    let row = row_of(&readings)?;
     let (sensors, names) = sensor_bank(rest)?;
     let answer = |name: &String| {
         let name = checked(name)?;
@@ -134,8 +129,24 @@ fn from_both(lines: &[String]) -> Option<Vec<String>> {
     names.iter().map(answer).collect()
 }
 
+/// The readings of the first two lines, names and cells, and the lines after them.
+pub(crate) fn one_row(lines: &[String]) -> Option<(Readings, &[String])> {
+    let [names, cells, rest @ ..] = lines else {
+        return None;
+    };
+    let readings = readings::parse(format!("{names}\n{cells}\n").as_bytes()).ok()?;
+    Some((readings, rest))
+}
+
+/// The first row.
+pub(crate) fn row_of(readings: &Readings) -> Option<Row<'_>> {
+    let names = &readings.names;
+    let cells = readings.rows.first()?;
+    Some(Row { names, cells })
+}
+
 /// The bank that the first lines describe, and the lines after it.
-fn sensor_bank(lines: &[String]) -> Option<(SensorBank, &[String])> {
+pub(crate) fn sensor_bank(lines: &[String]) -> Option<(SensorBank, &[String])> {
     let (sensors, rest) = lines.split_at_checked(SENSORS)?;
     let sensors: Option<Vec<Sensor>> = sensors.iter().map(|line| sensor(line)).collect();
     let sensors = sensors?.try_into().ok()?;

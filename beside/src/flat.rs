@@ -8,6 +8,8 @@ use crate::operators::{self, Operand};
 use crate::policy::Policy;
 use crate::spelling;
 
+mod compiling;
+
 /// The place of a condition line, counted from 0.
 type Place = u16;
 

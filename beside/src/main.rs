@@ -1,4 +1,4 @@
-//! The command line: the cases and their summary, the table for a folder, sample policies and five stopwatches.
+//! The command line: the cases and their summary, the table for a folder, sample policies and eight stopwatches.
 
 use std::error::Error;
 use std::hint::black_box;
@@ -9,6 +9,8 @@ use std::process::ExitCode;
 use std::time::Instant;
 use std::{env, fs};
 
+use beside::calls::count::Count;
+use beside::calls::{List, Played};
 use beside::combining::Decision;
 use beside::deciding::Judgement;
 use beside::enforcement::{enforce, Bias};
@@ -23,6 +25,8 @@ use beside::survey::Survey;
 use beside::value::Value;
 use beside::{deciding, devices, policy, readings, trial};
 
+mod stopwatch;
+
 type Outcome = Result<(), Box<dyn Error>>;
 
 const USAGE: &str = "usage: beside cases OUTDIR
@@ -34,6 +38,9 @@ const USAGE: &str = "usage: beside cases OUTDIR
        beside walk FILE ROWFILE ROUNDS
        beside flat CONDITIONS FILE ROWFILE ROUNDS
        beside enforce DUTIES ROUNDS
+       beside gate-fit FILE ROUNDS
+       beside gate-turn FILE ROWFILE ROUNDS
+       beside gate-quick FILE ROWFILE ROUNDS
        beside decidepolicy LINES
        beside deciderow LINES";
 const LEAST_LINES: usize = 3;
@@ -51,6 +58,9 @@ fn main() -> ExitCode {
         ["walk", file, rows, rounds] => walk(file, rows, rounds),
         ["flat", conditions, file, rows, rounds] => flat(conditions, file, rows, rounds),
         ["enforce", duties, rounds] => time_enforcement(duties, rounds),
+        ["gate-fit", file, rounds] => stopwatch::fit(file, rounds),
+        ["gate-turn", file, rows, rounds] => stopwatch::turn(file, rows, rounds),
+        ["gate-quick", file, rows, rounds] => stopwatch::quick(file, rows, rounds),
         ["decidepolicy", lines] => print_decision_policy(lines),
         ["deciderow", lines] => print_decision_row(lines),
         _ => Err(USAGE.into()),
@@ -64,7 +74,7 @@ fn main() -> ExitCode {
     }
 }
 
-/// The cases of two files each, and then those for devices.
+/// The cases of two files each, then those for devices, and then the lists of calls.
 fn write_cases(folder: &Path) -> Outcome {
     let mut input = Vec::new();
     let mut output = String::new();
@@ -80,13 +90,25 @@ fn write_cases(folder: &Path) -> Outcome {
             output.push('\n');
         }
     }
+    for (list, played) in played_lists()? {
+        input.extend(list.framed());
+        output.push_str(&format!("{played}\n"));
+    }
     fs::create_dir_all(folder)?;
     fs::write(folder.join("stdin"), input)?;
     fs::write(folder.join("stdout"), output)?;
     Ok(())
 }
 
-/// What the cases of two files each come to.
+fn played_lists() -> Result<Vec<(List, Played)>, Box<dyn Error>> {
+    let played = |list: List| {
+        let played = list.played().ok_or("a source is misspelt")?;
+        Ok((list, played))
+    };
+    generate::call_lists().into_iter().map(played).collect()
+}
+
+/// What the cases of two files each come to, and the lists of calls.
 fn print_summary() -> Outcome {
     let cases = generate::all_cases();
     let answer = |case: &Case| trial::answer(&case.policy, &case.readings) + "\n";
@@ -96,6 +118,7 @@ fn print_summary() -> Outcome {
     let pairs: Vec<(Policy, Readings)> = cases.iter().filter_map(accepted).collect();
     print!("{}", Survey::of_pairs(&pairs));
     println!("cases for devices {}", generate::device_cases().len());
+    print!("{}", Count::of_lists(&played_lists()?));
     Ok(())
 }
 

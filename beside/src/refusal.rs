@@ -1,4 +1,4 @@
-//! Why a file is turned away, and where the fault lies.
+//! Why a file or a call is turned away, and where the fault lies.
 
 use std::fmt;
 
@@ -16,6 +16,10 @@ pub enum Cause {
     RowShape = 9,
     Cell = 10,
     TooLarge = 11,
+    NoPolicy = 12,
+    NoReadings = 13,
+    ResponseWaits = 14,
+    NoneWaits = 15,
 }
 
 impl Cause {
@@ -23,11 +27,13 @@ impl Cause {
         self as u32
     }
 
-    /// 1 is spelling, 2 the shape of the tree, 3 memory.
+    /// 1 is spelling, 2 the shape of the tree, 3 memory, 4 the order of calls.
     pub fn layer(self) -> u32 {
         match self {
             Cause::BadReference | Cause::Naming | Cause::LineCount => 2,
             Cause::TooLarge => 3,
+            Cause::NoPolicy | Cause::NoReadings => 4,
+            Cause::ResponseWaits | Cause::NoneWaits => 4,
             _ => 1,
         }
     }
@@ -55,6 +61,11 @@ impl Refusal {
     pub fn of_file(cause: Cause) -> Self {
         Refusal::at(cause, 0, 0)
     }
+
+    /// A call that is turned away for itself.
+    pub fn of_call(cause: Cause) -> Self {
+        Refusal::at(cause, 0, 0)
+    }
 }
 
 impl fmt::Display for Refusal {
@@ -78,5 +89,20 @@ mod tests {
         assert_eq!(shown(Cause::Cell), "refused 10 1 7 3");
         let large = Refusal::of_file(Cause::TooLarge).to_string();
         assert_eq!(large, "refused 11 3 0 0");
+        let calls = [
+            Cause::NoPolicy,
+            Cause::NoReadings,
+            Cause::ResponseWaits,
+            Cause::NoneWaits,
+        ];
+        assert_eq!(
+            calls.map(|cause| Refusal::of_call(cause).to_string()),
+            [
+                "refused 12 4 0 0",
+                "refused 13 4 0 0",
+                "refused 14 4 0 0",
+                "refused 15 4 0 0"
+            ]
+        );
     }
 }

@@ -1,6 +1,8 @@
-//! Makes pairs of files, good and damaged, and cases for devices, the same ones on every run.
+//! Makes pairs of files, good and damaged, cases for devices, and lists of calls, the same ones on
+//! every run.
 
 mod bytes;
+mod calls;
 mod cells;
 mod children;
 mod classes;
@@ -27,6 +29,7 @@ mod words;
 pub use devices::DeviceCase;
 pub use sample::{decision_policy, decision_row, LINES_OF_A_ROUND};
 
+use crate::calls::List;
 use crate::line::{Algorithm, Strategy};
 use random::Random;
 
@@ -64,6 +67,11 @@ pub fn all_cases() -> Vec<Case> {
 /// All cases for devices.
 pub fn device_cases() -> Vec<DeviceCase> {
     devices::cases()
+}
+
+/// All lists of calls on a gate.
+pub fn call_lists() -> Vec<List> {
+    calls::lists()
 }
 
 /// Every algorithm with every strategy, as a set spells them.

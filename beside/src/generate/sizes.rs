@@ -41,7 +41,7 @@ pub fn cases(random: &mut Random) -> Vec<Case> {
 }
 
 /// One line of the right shape whose name fills the file.
-fn long_name(bytes: usize) -> Vec<u8> {
+pub fn long_name(bytes: usize) -> Vec<u8> {
     let (start, end) = (b"attr ", b" - - - -\n");
     let room = bytes - BARE_POLICY.len() - start.len() - end.len();
     [BARE_POLICY, start, &vec![b'n'; room], end].concat()

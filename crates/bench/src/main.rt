@@ -1,13 +1,19 @@
-// A stopwatch. Each job but the last prints the nanoseconds of all rounds, and a size:
+// A stopwatch. Each job but the last two prints the nanoseconds of all rounds, and a size:
 // `bench check FILE ROUNDS`, the check of a policy file, and its length;
 // `bench decide FILE READINGS ROUNDS`, the answer to the first row, and the number of policy lines;
 // `bench walk FILE READINGS ROUNDS`, the same with the row's readings looked up beforehand;
 // `bench quick FILE READINGS ROUNDS`, the flat pass over these readings;
+// `bench gate-fit FILE READINGS ROUNDS`, a gate's fitting of the file;
+// `bench gate-turn FILE READINGS ROUNDS`, its decision by these readings and the enforcement of what waits then;
+// `bench gate-quick FILE READINGS ROUNDS`, its flat pass over them;
 // `bench enforce DUTIES ROUNDS`, the enforcement of a response on a switchboard, and the number of its duties.
 // `bench conditions FILE READINGS` prints the condition lines of a policy, for a pass by another program.
+// `bench play FILE READINGS PAIRS ROUNDS` plays rounds of all calls on so many pairs of gates, and prints how many were answered and refused.
 // With fewer than three arguments it does nothing.
 
 #![tactic(auto)]
+
+mod rounds;
 
 use combining::Decision;
 use compiling::{CONDITION_PLACES, Conditions, Fitted};
@@ -301,13 +307,22 @@ fn position_at(valves: &[Valve], place: usize) -> i32 {
         .map_or(0, |valve| i32::from(valve.position()))
 }
 
+// Never inlined, or the compiler would leave out the latest duties, which nobody reads afterwards.
+#[inline(never)]
+fn enforce_duties(
+    duties: &[Duty],
+    board: &mut Switchboard<Journal<'_>, ValveBank>,
+) -> (Decision, usize, usize, usize) {
+    enforce(Bias::Base, Decision::Permit, duties, board)
+}
+
 // Each round has a new journal and a new valve bank. An entry and a valve are read in each, others in the next, so that none of the writing can be left out.
 fn enforce_often(duties: &[Duty], entries: &mut [Duty], rounds: u32) -> i32 {
     let mut sum = 0i32;
     for round in 0..rounds {
         if let Ok(journal) = Journal::lay(&mut *entries) {
             let mut board = Switchboard::new(journal, ValveBank::new());
-            enforce(Bias::Base, Decision::Permit, duties, &mut board);
+            enforce_duties(duties, &mut board);
             let entries = board.first().entries();
             let place = round as usize % entries.len().max(1);
             sum = sum.wrapping_add(number_at(entries, place));
@@ -330,40 +345,56 @@ fn time_enforce(rt: &HostRuntime, count: u32, rounds: u32) -> anyhow::Result<()>
     Ok(())
 }
 
+fn usage() -> anyhow::Result<()> {
+    anyhow::bail!(
+        "usage: bench check FILE ROUNDS, bench decide, walk, quick, gate-fit, gate-turn or gate-quick FILE READINGS ROUNDS, bench enforce DUTIES ROUNDS, bench conditions FILE READINGS or bench play FILE READINGS PAIRS ROUNDS"
+    )
+}
+
+// The jobs on a policy file and a readings file.
+fn time_pair(
+    rt: &HostRuntime,
+    job: &str,
+    path: &str,
+    readings: &str,
+    rounds: u32,
+) -> anyhow::Result<()> {
+    match job {
+        "decide" => time_decide(rt, path, readings, rounds),
+        "walk" => time_walk(rt, path, readings, rounds),
+        "quick" => time_quick(rt, path, readings, rounds),
+        "gate-fit" => rounds::time_fit(rt, path, readings, rounds),
+        "gate-turn" => rounds::time_turn(rt, path, readings, rounds),
+        "gate-quick" => rounds::time_quick(rt, path, readings, rounds),
+        _ => usage(),
+    }
+}
+
 fn main(rt: HostRuntime) -> anyhow::Result<()> {
     let mut args = env::args(&rt)?;
     let _ = args.next();
     let (Some(job), Some(first), Some(second)) = (args.next(), args.next(), args.next()) else {
         return Ok(());
     };
-    match (job.as_str(), args.next()) {
-        ("check", None) => time_check(&rt, first.as_str(), second.as_str().parse::<u32>()?),
-        ("decide", Some(rounds)) => time_decide(
+    let (job, first, second) = (job.as_str(), first.as_str(), second.as_str());
+    match (args.next(), args.next()) {
+        (None, _) => match job {
+            "check" => time_check(&rt, first, second.parse::<u32>()?),
+            "conditions" => print_conditions(&rt, first, second),
+            "enforce" => time_enforce(&rt, first.parse::<u32>()?, second.parse::<u32>()?),
+            _ => usage(),
+        },
+        (Some(rounds), None) => {
+            let rounds = rounds.as_str().parse::<u32>()?;
+            time_pair(&rt, job, first, second, rounds)
+        }
+        (Some(pairs), Some(rounds)) if job == "play" => rounds::play(
             &rt,
-            first.as_str(),
-            second.as_str(),
+            first,
+            second,
+            pairs.as_str().parse::<u32>()?,
             rounds.as_str().parse::<u32>()?,
         ),
-        ("quick", Some(rounds)) => time_quick(
-            &rt,
-            first.as_str(),
-            second.as_str(),
-            rounds.as_str().parse::<u32>()?,
-        ),
-        ("walk", Some(rounds)) => time_walk(
-            &rt,
-            first.as_str(),
-            second.as_str(),
-            rounds.as_str().parse::<u32>()?,
-        ),
-        ("conditions", None) => print_conditions(&rt, first.as_str(), second.as_str()),
-        ("enforce", None) => time_enforce(
-            &rt,
-            first.as_str().parse::<u32>()?,
-            second.as_str().parse::<u32>()?,
-        ),
-        _ => anyhow::bail!(
-            "usage: bench check FILE ROUNDS, bench decide, walk or quick FILE READINGS ROUNDS, bench enforce DUTIES ROUNDS or bench conditions FILE READINGS"
-        ),
+        _ => usage(),
     }
 }

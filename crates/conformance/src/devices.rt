@@ -20,7 +20,7 @@ struct Call {
     duties: Vec<Duty>,
 }
 
-fn bias(word: &[u8]) -> Option<Bias> {
+pub(crate) fn bias(word: &[u8]) -> Option<Bias> {
     match word {
         b"base" => Some(Bias::Base),
         b"deny-biased" => Some(Bias::DenyBiased),
@@ -117,14 +117,22 @@ fn play<S: Service>(
 }
 
 // Adds a line with the entries in order.
-fn add_entries(heap: Global, journal: &Journal, out: &mut String) -> Result<(), AllocError> {
+pub(crate) fn add_entries(
+    heap: Global,
+    journal: &Journal,
+    out: &mut String,
+) -> Result<(), AllocError> {
     out.push_str("entries")?;
     add_duties(heap, journal.entries(), out)?;
     out.push('\n')
 }
 
 // Adds a line with the positions in order.
-fn add_valves(heap: Global, bank: &ValveBank, out: &mut String) -> Result<(), AllocError> {
+pub(crate) fn add_valves(
+    heap: Global,
+    bank: &ValveBank,
+    out: &mut String,
+) -> Result<(), AllocError> {
     out.push_str("valves")?;
     for valve in bank.valves() {
         let position = valve.position();
@@ -134,7 +142,11 @@ fn add_valves(heap: Global, bank: &ValveBank, out: &mut String) -> Result<(), Al
 }
 
 // Adds the last line: the latest duty.
-fn add_latest(heap: Global, latest: Option<Duty>, out: &mut String) -> Result<(), AllocError> {
+pub(crate) fn add_latest(
+    heap: Global,
+    latest: Option<Duty>,
+    out: &mut String,
+) -> Result<(), AllocError> {
     out.push_str("latest")?;
     match latest {
         Some(duty) => add_duties(heap, &[duty], out),

@@ -27,7 +27,7 @@ fn sensor(heap: Global, line: &[u8]) -> Result<Option<Sensor>, AllocError> {
 }
 
 // A bank of sensors, one for each of the first lines.
-fn bank(heap: Global, lines: &[&[u8]]) -> Result<Option<SensorBank>, AllocError> {
+pub(crate) fn bank(heap: Global, lines: &[&[u8]]) -> Result<Option<SensorBank>, AllocError> {
     let Some(first) = lines.first() else {
         return Ok(None);
     };
@@ -75,7 +75,7 @@ pub(crate) fn sensors(heap: Global, lines: &[&[u8]], out: &mut String) -> Result
 }
 
 // What each word of a line spells; none if one of them is misspelt.
-fn spelled<T: Drop, F: Fn(&[u8]) -> Option<T>>(
+pub(crate) fn spelled<T: Drop, F: Fn(&[u8]) -> Option<T>>(
     heap: Global,
     line: &[u8],
     read: F,

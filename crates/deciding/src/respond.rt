@@ -18,6 +18,7 @@ use crate::response::Answer;
 use combining::Decision;
 use policy::{Line, Policy};
 use readings::Row;
+use sources::Source;
 use std::alloc::{AllocError, Global};
 use trees::Duty;
 use values::Value;
@@ -47,16 +48,16 @@ impl Answer {
     }
 }
 
-// Puts what each attr line reads in a row at that line's place.
-fn read_row(lines: &[Line], row: &Row, readings: &mut Vec<Value>)
+// Puts what each attr line reads in a source at that line's place.
+fn read_lines<S: Source>(lines: &[Line], source: &S, readings: &mut Vec<Value>)
     requires { length lines.now ≤ vec_len readings.old }
-    ensures reads { Reads lines.now readings.new.items (map_in row.now) }
+    ensures reads { Reads lines.now readings.new.items (S.means source.now) }
     ensures len { vec_len readings.new ≡ vec_len readings.old }
 {
     // By index: a reading is found by its line's place, and no value is copied for a line of another kind.
     for (place, line) in lines.iter().enumerate() {
         if let Line::Attribute(name) = line {
-            readings[place] = row.look_up(name.as_bytes());
+            readings[place] = source.look_up(name.as_bytes());
         }
     }
 }
@@ -93,6 +94,29 @@ impl Evaluator {
         self.readings.as_slice()
     }
 
+    // Looks up what a policy's attr lines name in a source.
+    pub fn read<S: Source>(&mut self, policy: &Policy, source: &S)
+        ensures reads { Reads (lines_of policy.now) (readings_in self.new) (S.means source.now) }
+        ensures places { places self.new ≡ places self.old }
+    {
+        read_lines(policy.lines(), source, &mut self.readings);
+    }
+
+    // Answers by what was read last, which stays.
+    pub fn decide(&mut self, policy: &Policy, answer: &mut Answer)
+        ensures known { response_of answer.new ≡ respond_of nothing (known_policy (lines_of policy.now) (readings_in self.old)) }
+        ensures responds { (m : Map) → Reads (lines_of policy.now) (readings_in self.old) m → response_of answer.new ≡ respond_of m (policy_of (lines_of policy.now)) }
+        ensures read { readings_in self.new ≡ readings_in self.old }
+        ensures same { answer_places answer.new ≡ answer_places answer.old }
+        ensures places { places self.new ≡ places self.old }
+    {
+        let known = Known {
+            lines: policy.lines(),
+            readings: self.readings.as_slice(),
+        };
+        self.memory.respond(&known, answer);
+    }
+
     // Answers by a row of a readings file.
     pub fn respond_to_row(&mut self, policy: &Policy, row: &Row, answer: &mut Answer)
         ensures responds { response_of answer.new ≡ respond_of (map_in row.now) (policy_of (lines_of policy.now)) }
@@ -101,12 +125,7 @@ impl Evaluator {
         ensures same { answer_places answer.new ≡ answer_places answer.old }
         ensures places { places self.new ≡ places self.old }
     {
-        let lines = policy.lines();
-        read_row(lines, row, &mut self.readings);
-        let known = Known {
-            lines,
-            readings: self.readings.as_slice(),
-        };
-        self.memory.respond(&known, answer);
+        self.read(policy, row);
+        self.decide(policy, answer);
     }
 }

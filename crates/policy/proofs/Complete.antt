@@ -418,7 +418,7 @@ body_forward (x ∷ rest) done ms (suc left) n c lm t w =
     ∙ ap Ok again
 
 -- the file of a tree of lines that can be spelled is accepted as these lines
-every_tree : (ls : List Line) → Tree ls → AllWellSpelt ls → check_of (spelt ls) ≡ Ok ls
+pub every_tree : (ls : List Line) → Tree ls → AllWellSpelt ls → check_of (spelt ls) ≡ Ok ls
 unfolding no_marks
 every_tree ls t w =
     let cut = cut_front 10 (codes "kind a b c d e") (rows ls) refl in

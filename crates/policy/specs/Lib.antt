@@ -6,3 +6,4 @@ pub mod Outcome
 pub mod Spelt
 pub mod Tree
 pub mod WellSpelt
+pub mod Idle

@@ -2,11 +2,14 @@
 
 ghost use Rattle.std.specs.Prelude.{◌≡◌, ◌≤◌, IfOk, vec_capacity};
 ghost use Rattle.policy.specs.Accepted.{lines_of, capacity_of, room_capacity, Checked, AcceptsTrees};
+ghost use Rattle.policy.specs.Idle.{idle_lines, Reloaded};
 ghost use Rattle.policy.specs.Tree.{Tree};
 
 use crate::accepted::{Policy, Refused, Room};
 use crate::draft::Draft;
-use crate::line::Line;
+use crate::line::{Effect, Line};
+use core::mem::replace_with;
+use refusals::Rejection;
 use std::alloc::{AllocError, Global};
 
 impl Room {
@@ -59,5 +62,35 @@ impl Policy {
     {
         let Policy { lines } = self;
         Room::emptied(lines)
+    }
+
+    // A policy that never applies, for memory that has to hold one before the first file comes.
+    pub fn idle(room: Room) -> Policy
+        ensures lines { lines_of result ≡ idle_lines }
+        ensures capacity { capacity_of result ≡ room_capacity room }
+    {
+        let Room { mut lines } = room;
+        lines.push_reserved(Line::Truth(false));
+        lines.push_reserved(Line::Rule(Effect::Deny, 1, None));
+        Policy { lines }
+    }
+
+    // Reads another file in this policy's place.
+    fn reread(self, file: &[u8]) -> (Policy, Result<(), Rejection>)
+        ensures value { Reloaded file.now result.1 (lines_of result.0) }
+        ensures capacity { capacity_of result.0 ≡ capacity_of self }
+    {
+        match self.into_room().check(file) {
+            Ok(policy) => (policy, Ok(())),
+            Err(refused) => (Policy::idle(refused.room), Err(refused.rejection)),
+        }
+    }
+
+    // Reads another file into this policy's memory; where the file is refused, a policy is left that never applies.
+    pub fn reload(&mut self, file: &[u8]) -> Result<(), Rejection>
+        ensures value { Reloaded file.now result (lines_of self.new) }
+        ensures capacity { capacity_of self.new ≡ capacity_of self.old }
+    {
+        replace_with(self, file, Policy::reread)
     }
 }

@@ -3,7 +3,7 @@ use Rattle.std.specs.Prelude.{ℕ, cond, ◌&&◌, ◌==◌, nat_le}
 use Rattle.refusals.specs.declared.cause.Cause.{Cause}
 use Rattle.refusals.specs.declared.cause.Cause.TheVariants as why
 use Rattle.refusals.specs.declared.cause.Layer.{Layer}
-use Rattle.refusals.specs.declared.cause.Layer.TheVariants.{Spelling, Tree, Memory}
+use Rattle.refusals.specs.declared.cause.Layer.TheVariants.{Spelling, Tree, Memory, CallOrder}
 
 abbrev pub number_of : Cause → ℕ
 number_of why.Header = 1
@@ -24,12 +24,17 @@ number_of why.NameRepeated = 8
 number_of why.RowShape = 9
 number_of why.CellMisspelt = 10
 number_of why.TooSmall = 11
+number_of why.NoPolicy = 12
+number_of why.NoReadings = 13
+number_of why.ResponseWaits = 14
+number_of why.NoneWaits = 15
 
--- 2 tree for 5 to 7, 3 memory for 11, 1 spelling for the others
+-- 2 tree for 5 to 7, 3 memory for 11, 4 call order for 12 to 15, 1 spelling for the others
 abbrev pub layer_of : ℕ → ℕ
-layer_of n = cond (nat_le 5 n && nat_le n 7) 2 (cond (n == 11) 3 1)
+layer_of n = cond (nat_le 5 n && nat_le n 7) 2 (cond (n == 11) 3 (cond (nat_le 12 n && nat_le n 15) 4 1))
 
 abbrev pub layer_number : Layer → ℕ
 layer_number Spelling = 1
 layer_number Tree = 2
 layer_number Memory = 3
+layer_number CallOrder = 4

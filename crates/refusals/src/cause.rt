@@ -9,6 +9,7 @@ pub enum Layer {
     Spelling,
     Tree,
     Memory,
+    CallOrder,
 }
 
 #[derive(Clone, Copy, PartialEq, Eq)]
@@ -49,6 +50,14 @@ pub enum Cause {
     CellMisspelt,
     // The memory given, or the memory for a file, is too small.
     TooSmall,
+    // A call asks for a policy, and none is in force.
+    NoPolicy,
+    // A call asks for readings, and none were read since the policy came into force.
+    NoReadings,
+    // A call has to wait until the response that waits is enforced.
+    ResponseWaits,
+    // A response is to be enforced, and none waits.
+    NoneWaits,
 }
 
 impl Cause {
@@ -61,6 +70,8 @@ impl Cause {
             Cause::NamedTwice | Cause::NeverNamed | Cause::LastNotPolicy => Layer::Tree,
             Cause::LineCount => Layer::Tree,
             Cause::TooSmall => Layer::Memory,
+            Cause::NoPolicy | Cause::NoReadings => Layer::CallOrder,
+            Cause::ResponseWaits | Cause::NoneWaits => Layer::CallOrder,
             _ => Layer::Spelling,
         }
     }
@@ -84,6 +95,10 @@ impl From<Cause> for u8 {
             Cause::RowShape => 9,
             Cause::CellMisspelt => 10,
             Cause::TooSmall => 11,
+            Cause::NoPolicy => 12,
+            Cause::NoReadings => 13,
+            Cause::ResponseWaits => 14,
+            Cause::NoneWaits => 15,
         }
     }
 }
@@ -97,6 +112,7 @@ impl From<Layer> for u8 {
             Layer::Spelling => 1,
             Layer::Tree => 2,
             Layer::Memory => 3,
+            Layer::CallOrder => 4,
         }
     }
 }

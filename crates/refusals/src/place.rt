@@ -32,7 +32,7 @@ impl From<Cause> for LineFault {
 }
 
 impl Rejection {
-    // A fault of the file as a whole.
+    // A refusal without a place: a fault of the file as a whole, memory that is too small, or a call out of order.
     pub fn of_file(cause: Cause) -> Rejection
         ensures { result ≡ record { cause = cause; line = 0; field = 0 } }
     {

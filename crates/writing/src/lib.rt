@@ -7,4 +7,4 @@ mod row;
 mod word;
 pub mod write;
 
-pub use write::write_back;
+pub use write::{MOST_BYTES, write_back, write_lines};

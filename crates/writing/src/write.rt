@@ -1,6 +1,6 @@
 // Writing a policy back.
 
-ghost use Rattle.std.specs.Prelude.{◌≡◌, ℕ, ◌+◌, ◌≤◌, List, length, Ok};
+ghost use Rattle.std.specs.Prelude.{◌≡◌, ℕ, ◌+◌, ◌≤◌, List, length, Ok, IsOk};
 ghost use Rattle.policy.specs.Accepted.{lines_of};
 ghost use Rattle.policy.specs.Check.{check_of};
 ghost use Rattle.policy.specs.Spelt.{rows, spelt};
@@ -13,6 +13,9 @@ use policy::{Line, Policy};
 use refusals::{Cause, Rejection};
 
 const HEADER: &[u8] = b"kind a b c d e\n";
+
+// No file of up to 256 lines has more bytes, line 0 included; a line has at most 150.
+pub const MOST_BYTES: usize = 38_415;
 
 // The number of bytes of these lines.
 fn lines_length(lines: &[Line]) -> usize
@@ -35,15 +38,23 @@ fn put_lines(lines: &[Line], out: &mut [u8], start: usize) -> usize
     place
 }
 
-// Writes the policy's file into `out` and answers its length; bytes beyond it stay. Where it does not fit nothing is written.
-pub fn write_back(policy: &Policy, out: &mut [u8]) -> Result<usize, Rejection>
-    ensures lines { Written (spelt (lines_of policy.now)) out.old out.new result }
-    ensures file { (f : List ℕ) → check_of f ≡ Ok (lines_of policy.now) → Written f out.old out.new result }
+// Writes the file of these lines into `out` and answers its length; bytes beyond it stay. Where it does not fit nothing is written.
+pub fn write_lines(lines: &[Line], out: &mut [u8]) -> Result<usize, Rejection>
+    requires { length lines.now ≤ 256 }
+    ensures written { Written (spelt lines.now) out.old out.new result }
+    ensures enough { MOST_BYTES ≤ length out.old → IsOk result }
 {
-    let lines = policy.lines();
     if HEADER.len() + lines_length(lines) > out.len() {
         return Err(Rejection::of_file(Cause::TooSmall));
     }
     let place = put(out, 0, HEADER);
     Ok(put_lines(lines, out, place))
+}
+
+// Writes the policy's file into `out` in the same way.
+pub fn write_back(policy: &Policy, out: &mut [u8]) -> Result<usize, Rejection>
+    ensures lines { Written (spelt (lines_of policy.now)) out.old out.new result }
+    ensures file { (f : List ℕ) → check_of f ≡ Ok (lines_of policy.now) → Written f out.old out.new result }
+{
+    write_lines(policy.lines(), out)
 }

@@ -1,17 +1,16 @@
 use Rattle.std.proofs.Common.{◌+◌, List, vec_items, sym, ap, ◌∙◌, subst, arith, rules}
 use Rattle.values.specs.declared.value.Value.{Value}
-use Rattle.readings.specs.Rows.{map_in}
 use Rattle.deciding.proofs.Reading.{ReadTo, other_next, attribute_next}
-use Rattle.deciding.proofs.respond.read_row.Goals as goal
-use Rattle.deciding.proofs.respond.read_row.Goals.{in-Attribute, in_default}
+use Rattle.deciding.proofs.respond.read_lines.Goals as goal
+use Rattle.deciding.proofs.respond.read_lines.Goals.{in-Attribute, in_default}
 
 pub loop-place-init : goal.loop-place-init
-loop-place-init c = λ n lo hi. absurd (omega (arith, lo, hi))
+loop-place-init g c = λ n lo hi. absurd (omega (arith, lo, hi))
 
 pub loop-place-preserved : goal.loop-place-preserved
-loop-place-preserved c =
+loop-place-preserved g c =
     let ls = c.args.lines.now in
-    let m = map_in c.args.row.now in
+    let m = g.S.Source.means c.args.source.now in
     let k = c.loop-place.place in
     elim c.match-line.branch [
       | in-Attribute w ↦
@@ -26,4 +25,4 @@ loop-place-preserved c =
     ]
 
 pub returns-clause-reads : goal.returns-clause-reads
-returns-clause-reads c = λ n lo hi. c.loop-place.invariant n lo (omega (arith, hi, c.loop-place-test.false))
+returns-clause-reads g c = λ n lo hi. c.loop-place.invariant n lo (omega (arith, hi, c.loop-place-test.false))

@@ -1,0 +1,3 @@
+pub mod Phases
+pub mod Book
+pub mod Shown

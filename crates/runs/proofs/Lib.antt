@@ -1,0 +1,4 @@
+pub mod Conforming
+pub mod Turning
+pub mod Growing
+pub mod Laws

@@ -1,0 +1,3 @@
+pub mod Requests
+pub mod Pages
+pub mod Law

@@ -14,7 +14,7 @@ final_of All false h = h
 final_of Greedy b h = h
 
 -- a final decision is kept, whatever all further children decide
-keeps : (w : Wording) → FinalStays w → (seen ds : List Decision) → w.is_final (w.decision seen) ≡ true → w.decision (seen ++ ds) ≡ w.decision seen
+pub keeps : (w : Wording) → FinalStays w → (seen ds : List Decision) → w.is_final (w.decision seen) ≡ true → w.decision (seen ++ ds) ≡ w.decision seen
 keeps w law seen [] h = ap w.decision (append-nil seen)
 keeps w law seen (d ∷ ds) h =
     let e = law seen d h in

@@ -3,3 +3,4 @@ pub mod Laws
 pub mod Complete
 pub mod LineLaws
 pub mod Turns
+pub mod Families

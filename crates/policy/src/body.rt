@@ -1,9 +1,9 @@
 // The lines of a file one after the other, and what is checked once all are read.
 
-ghost use Rattle.std.specs.Prelude.{◌≡◌, ◌-◌, [], length, not, position, vec_capacity};
+ghost use Rattle.std.specs.Prelude.{◌≡◌, ◌-◌, length, not, position, vec_capacity};
 ghost use Rattle.values.specs.Options.{each};
 ghost use Rattle.refusals.specs.Places.{at_line};
-ghost use Rattle.policy.specs.Check.{step_of, stepped, end_of, body_of, header_of, check_of, no_marks};
+ghost use Rattle.policy.specs.Check.{step_of, stepped, end_of, body_of, header_of};
 ghost use Rattle.policy.specs.Outcome.{with_lines};
 
 use crate::draft::Draft;
@@ -13,7 +13,7 @@ use refusals::{Cause, Rejection};
 use spelling::cut::{cut, split};
 
 // What follows line 0.
-fn header<'a>(file: &'a [u8]) -> Option<&'a [u8]>
+pub(crate) fn header<'a>(file: &'a [u8]) -> Option<&'a [u8]>
     ensures { each (λ x. x.now) result ≡ header_of file.now }
 {
     let (first, rest) = cut(file, b'\n')?;
@@ -68,7 +68,7 @@ impl Draft {
 
     // The lines after line 0, at most 256.
     // No `for` over `split`, which does not tell whether byte 10 is at the end, nor over `split_inclusive`, of whose pieces its contract tells nothing.
-    fn read_body(&mut self, body: &[u8]) -> Result<(), Rejection>
+    pub(crate) fn read_body(&mut self, body: &[u8]) -> Result<(), Rejection>
         ensures value { with_lines result self.new.lines.items ≡ body_of (256 - length self.old.lines.items) self.old.lines.items self.old.named body.now }
         ensures capacity { vec_capacity self.new.lines ≡ vec_capacity self.old.lines }
     {
@@ -87,16 +87,5 @@ impl Draft {
             rest = after;
         }
         self.finish()
-    }
-
-    // The lines of a policy file.
-    pub(crate) fn read_file(&mut self, file: &[u8]) -> Result<(), Rejection>
-        requires empty { self.old.lines.items ≡ [] }
-        requires unnamed { self.old.named ≡ no_marks }
-        ensures value { with_lines result self.new.lines.items ≡ check_of file.now }
-        ensures capacity { vec_capacity self.new.lines ≡ vec_capacity self.old.lines }
-    {
-        let body = header(file).ok_or(Rejection::of_file(Cause::Header))?;
-        self.read_body(body)
     }
 }

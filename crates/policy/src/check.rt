@@ -6,10 +6,11 @@ ghost use Rattle.policy.specs.Idle.{idle_lines, Reloaded};
 ghost use Rattle.policy.specs.Tree.{Tree};
 
 use crate::accepted::{Policy, Refused, Room};
+use crate::body::header;
 use crate::draft::Draft;
 use crate::line::{Effect, Line};
 use core::mem::replace_with;
-use refusals::Rejection;
+use refusals::{Cause, Rejection};
 use std::alloc::{AllocError, Global};
 
 impl Room {
@@ -35,8 +36,15 @@ impl Room {
         ensures value { Checked file.now (room_capacity self) result }
         ensures trees { AcceptsTrees file.now result }
     {
+        // Line 0 is tested before a draft clears its marks.
+        let Some(body) = header(file) else {
+            return Err(Refused {
+                rejection: Rejection::of_file(Cause::Header),
+                room: self,
+            });
+        };
         let mut draft = Draft::new(self);
-        let read = draft.read_file(file);
+        let read = draft.read_body(body);
         let Draft { lines, .. } = draft;
         match read {
             Ok(()) => Ok(Policy { lines }),

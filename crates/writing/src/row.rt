@@ -1,6 +1,6 @@
 // A line as its six fields, and the fields put into given memory.
 
-ghost use Rattle.std.specs.Prelude.{◌≡◌, ◌+◌, ◌-◌, ◌≤◌, ◌++◌, length, replicate, codes, sum_by};
+ghost use Rattle.std.specs.Prelude.{◌≡◌, ◌+◌, ◌≤◌, length, sum_by};
 ghost use Rattle.policy.specs.Spelt.{fields_for};
 ghost use Rattle.writing.specs.Put.{Puts};
 ghost use Rattle.writing.specs.Rows.{listed, line_bytes};
@@ -8,57 +8,46 @@ ghost use Rattle.writing.specs.Rows.{listed, line_bytes};
 use crate::put::put;
 use crate::word::{
     Word, combining_word, decimal_word, effect_word, force_word, operator_word, optional_word,
-    truth_word, word,
+    text_word, truth_word, word,
 };
 use policy::Line;
 
-// The words as the first fields of a line, whose others are unused.
-fn fields(words: &[Word]) -> [Word; 6]
-    requires { length words.now ≤ 6 }
-    ensures { result ≡ words.now ++ replicate (6 - length words.now) (codes "-") }
-{
-    let mut row = [word(b"-"); 6];
-    row[..words.len()].copy_from_slice(words);
-    row
-}
-
-// The six fields of a line.
+// The six fields of a line; those that its kind does not use are `-`.
 fn row_of(line: &Line) -> [Word; 6]
     ensures { result ≡ listed (fields_for line.now) }
 {
+    let dash = word(b"-");
     match *line {
-        Line::Truth(value) => fields(&[truth_word(value)]),
-        Line::Attribute(name) => fields(&[word(b"attr"), name]),
-        Line::Number(z) => fields(&[word(b"num"), decimal_word(z)]),
-        Line::Text(text) => fields(&[word(b"text"), word(text.as_bytes())]),
-        Line::Not(j) => fields(&[word(b"not"), decimal_word(j)]),
+        Line::Truth(value) => [truth_word(value), dash, dash, dash, dash, dash],
+        Line::Attribute(name) => [word(b"attr"), name, dash, dash, dash, dash],
+        Line::Number(z) => [word(b"num"), decimal_word(z), dash, dash, dash, dash],
+        Line::Text(text) => [word(b"text"), text_word(text), dash, dash, dash, dash],
+        Line::Not(j) => [word(b"not"), decimal_word(j), dash, dash, dash, dash],
         Line::Binary(operator, j, k) => {
-            fields(&[operator_word(operator), decimal_word(j), decimal_word(k)])
+            let (j, k) = (decimal_word(j), decimal_word(k));
+            [operator_word(operator), j, k, dash, dash, dash]
         }
-        Line::Duty(force, action, argument, earlier) => fields(&[
-            force_word(force),
-            decimal_word(action),
-            decimal_word(argument),
-            optional_word(earlier),
-        ]),
+        Line::Duty(force, action, argument, earlier) => {
+            let (action, argument) = (decimal_word(action), decimal_word(argument));
+            let earlier = optional_word(earlier);
+            [force_word(force), action, argument, earlier, dash, dash]
+        }
         Line::Item(policy, earlier) => {
-            fields(&[word(b"item"), decimal_word(policy), optional_word(earlier)])
+            let (policy, earlier) = (decimal_word(policy), optional_word(earlier));
+            [word(b"item"), policy, earlier, dash, dash, dash]
         }
         Line::Rule(effect, target, duty) => {
-            fields(&[
-                effect_word(effect),
-                decimal_word(target),
-                optional_word(duty),
-            ])
+            let (target, duty) = (decimal_word(target), optional_word(duty));
+            [effect_word(effect), target, duty, dash, dash, dash]
         }
-        Line::Set(combining, target, items, on_permit, on_deny) => fields(&[
+        Line::Set(combining, target, items, on_permit, on_deny) => [
             word(b"set"),
             combining_word(combining),
             decimal_word(target),
             decimal_word(items),
             optional_word(on_permit),
             optional_word(on_deny),
-        ]),
+        ],
     }
 }
 

@@ -10,7 +10,7 @@ use crate::put::put;
 use itoa::{Buffer, Integer};
 use policy::{Effect, Force, LineNumber, Operator};
 use spelling::{Algorithm, Combining, Strategy};
-use values::Short;
+use values::{Short, Text};
 
 // No field is longer than a name.
 pub(crate) type Word = Short<24>;
@@ -20,6 +20,12 @@ pub(crate) fn word(s: &[u8]) -> Word
     ensures { result ≡ s.now }
 {
     Word::new(s).unwrap()
+}
+
+pub(crate) fn text_word(text: Text) -> Word
+    ensures { result ≡ text }
+{
+    word(text.as_bytes())
 }
 
 // A number in base ten.

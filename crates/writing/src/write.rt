@@ -1,6 +1,6 @@
 // Writing a policy back.
 
-ghost use Rattle.std.specs.Prelude.{◌≡◌, ℕ, ◌+◌, ◌≤◌, List, length, Ok, IsOk};
+ghost use Rattle.std.specs.Prelude.{◌≡◌, ℕ, ◌+◌, ◌*◌, ◌≤◌, List, length, true, Ok, IsOk, nat_le};
 ghost use Rattle.policy.specs.Accepted.{lines_of};
 ghost use Rattle.policy.specs.Check.{check_of};
 ghost use Rattle.policy.specs.Spelt.{rows, spelt};
@@ -17,13 +17,20 @@ const HEADER: &[u8] = b"kind a b c d e\n";
 // No file of up to 256 lines has more bytes, line 0 included; a line has at most 150.
 pub const MOST_BYTES: usize = 38_415;
 
-// The number of bytes of these lines.
-fn lines_length(lines: &[Line]) -> usize
-    requires { length lines.now ≤ 256 }
-    ensures value { result ≡ length (rows lines.now) }
-    ensures small { result ≤ 38400 }
+// Whether the lines have at most `room` bytes. It stops at the first line that does not fit.
+fn fit(lines: &[Line], room: usize) -> bool
+    ensures value { result ≡ nat_le (length (rows lines.now)) room }
+    ensures enough { 150 * length lines.now ≤ room → result ≡ true }
 {
-    lines.iter().map(line_length).sum()
+    let mut left = room;
+    for line in lines {
+        let size = line_length(line);
+        if size > left {
+            return false;
+        }
+        left -= size;
+    }
+    true
 }
 
 // Puts the lines from place `start` on, and answers where they end.
@@ -44,7 +51,7 @@ pub fn write_lines(lines: &[Line], out: &mut [u8]) -> Result<usize, Rejection>
     ensures written { Written (spelt lines.now) out.old out.new result }
     ensures enough { MOST_BYTES ≤ length out.old → IsOk result }
 {
-    if HEADER.len() + lines_length(lines) > out.len() {
+    if out.len() < HEADER.len() || !fit(lines, out.len() - HEADER.len()) {
         return Err(Rejection::of_file(Cause::TooSmall));
     }
     let place = put(out, 0, HEADER);

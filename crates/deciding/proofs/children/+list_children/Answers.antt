@@ -1,4 +1,4 @@
-use Rattle.std.proofs.Common.{[], ◌∷◌, ◌++◌, get_or, vec_items, sym, ap, ◌∙◌, append_assoc, arith}
+use Rattle.std.proofs.Common.{◌≡◌, [], ◌∷◌, ◌++◌, get_or, vec_items, sym, ap, ◌∙◌, append_assoc, arith, rules}
 use Rattle.std.proofs.lemmas.List.{append-nil}
 use Rattle.deciding.specs.Known.{response_at}
 use Rattle.deciding.specs.Kept.{MeanAll, no_response, unset}
@@ -23,7 +23,8 @@ returns-after-earlier-clause-children t c = λ os rs kept mean.
           (w.list_children.ensures.children os rs (kept_less n w.in-Some.number known c.args.responses.now os (omega (arith, e1)) kept) mean)
       | in_default-earlier w ↦ mean_as (ap vec_items w.children-is) (ap (λ o. rs ++ earlier_responses known o) w.in_default-earlier.is ∙ append-nil rs) mean
     ] in
-    mean_as (c.push_reserved.ensures.items ∙ ap (λ j. vec_items c.match-earlier.children ++ get_or c.args.responses.now j unset ∷ []) c.from.ensures)
+    let at : c.from.result ≡ p = search rules in
+    mean_as (c.push_reserved.ensures.items ∙ ap (λ j. vec_items c.match-earlier.children ++ get_or c.args.responses.now j unset ∷ []) at)
     (ap (λ xs. rs ++ xs) (items_are known n c.requires.low c.requires.high i c.in-Item.ensures) ∙ sym (append_assoc rs (earlier_responses known i) (response_at known p ∷ [])))
     (mean_more (vec_items c.match-earlier.children) (get_or c.args.responses.now p unset) os (rs ++ earlier_responses known i) (response_at known p) before (kept p b.0 b.1))
 

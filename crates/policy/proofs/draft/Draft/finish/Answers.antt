@@ -12,6 +12,7 @@ use Rattle.policy.specs.declared.line.Family.TheVariants as family
 use Rattle.policy.specs.declared.line.Line.{Line}
 use Rattle.policy.specs.Lines.{family_of, same_family, line_at}
 use Rattle.policy.specs.Check.{Marks, unmarked_from, all_named, rejected, end_of}
+use Rattle.policy.proofs.Families.{sameb-same_family}
 use Rattle.policy.proofs.draft.Draft.finish.Goals as goal
 
 -- the same search that counts from another number
@@ -22,9 +23,6 @@ counted n (false ∷ ms) = refl
 
 unmarked_position : (ms : Marks) → unmarked_from 1 ms ≡ option_map (λ i. i + 1) (position not ms)
 unmarked_position ms = counted 0 ms ∙ ap (option_map (λ i. i + 1)) (sym (position_from-zero not ms))
-
-is_policy : (x : Line) → sameb the_type (family_of x) family.Policy ≡ same_family (family_of x) family.Policy
-is_policy x = elim (family_of x) as (λ f. sameb the_type f family.Policy ≡ same_family f family.Policy) [ family.Expression ↦ refl | family.Duty ↦ refl | family.Item ↦ refl | family.Policy ↦ refl ]
 
 -- the end of the file, where there is a line
 module _ (ls : List Line) (ms : Marks) (some : 0 < length ls) where
@@ -46,7 +44,7 @@ module _ (ls : List Line) (ms : Marks) (some : 0 < length ls) where
       → end_of ls ms ≡ cond policy (Ok tt) (rejected why.LastNotPolicy (length ls))
   unfolding left
   named_end x policy e last test =
-      let f = ap (λ y. same_family (family_of y) family.Policy) last ∙ sym (is_policy x) ∙ test in
+      let f = ap (λ y. same_family (family_of y) family.Policy) last ∙ sym (sameb-same_family (family_of x) family.Policy) ∙ test in
       ends None e ∙ (λ i. cond (f i) (Ok tt) (rejected why.LastNotPolicy (length ls)))
 
 pub returns-in-Some : goal.returns-in-Some
